@@ -3,9 +3,10 @@
 
 usage: bench/functions.py LANG FOLDER [--files N] [--show N]
 
-LANG is java, go or c. At most N (1,000) files of the language in FOLDER are taken, spread evenly. The other parser is javac of the JDK, by its
-tree API, for Java; go/parser for Go; and Universal Ctags for C. Besides functions it reports what docs/LANGUAGES.md does not count as one:
-lambdas, initialisers, function literals, and declarations without a body.
+LANG is java, go, c, js or ts. At most N (1,000) files of the language in FOLDER are taken, spread evenly. The other parser is javac of the JDK, by its
+tree API, for Java; go/parser for Go; Universal Ctags for C; the acorn in node for JavaScript; and TypeScript's compiler for TypeScript, see
+functions_ts.js. Besides functions it reports what docs/LANGUAGES.md does not count as one: lambdas, initialisers, function literals, and
+declarations without a body.
 
 Two functions are equal if their name, the line of the name and the last line of the body are. Printed are how many files were compared, and
 how many functions there are by kind: equal ones, those with another last line or another name, and those that only one of the two has. The
@@ -13,7 +14,7 @@ kind is what the parser reports; if only one has a function of C, it is derived 
 unequal kind follow, spread evenly: the name, and the first and last line by the parser and by cqd. Files that cannot be uploaded, that have
 no tokens, or that the parser refuses are named on standard error and skipped.
 
-The program is ./cqd, or what the variable CQD names. `java`, `go` or `ctags` must be in PATH; go is also looked for where Debian has it.
+The program is ./cqd, or what the variable CQD names. `java`, `go`, `ctags` or `node` must be in PATH; go is also looked for where Debian has it.
 """
 import argparse
 import collections
@@ -65,7 +66,15 @@ def c_rows(paths):
         yield tag["path"], "function", tag["name"], tag["line"], tag.get("end", 0)
 
 
-PEERS = {"java": java_rows, "go": go_rows, "c": c_rows}
+def js_rows(paths):
+    return (row for row in rows_of(told_by(["node", "--expose-internals", str(ROOT / "bench" / "functions.js")], paths)) if row[1] != "none")
+
+
+def ts_rows(paths):
+    return (row for row in rows_of(told_by(["node", str(ROOT / "bench" / "functions_ts.js")], paths)) if row[1] != "none")
+
+
+PEERS = {"java": java_rows, "go": go_rows, "c": c_rows, "js": js_rows, "ts": ts_rows}
 
 
 def chosen(lang, folder, most):
@@ -143,7 +152,7 @@ class Compared:
         return rest
 
 
-NAMED = {"function", "method", "constructor"}
+NAMED = {"function", "method", "constructor", "arrow function", "function as a value"}
 
 
 class Plain:
@@ -255,7 +264,7 @@ class OfC:
         return "function in a branch of #if that is passed over" if self.tokens[at].is_passed else "function"
 
 
-WHY = {"java": Plain, "go": Plain, "c": OfC}
+WHY = {"java": Plain, "go": Plain, "c": OfC, "js": Plain, "ts": Plain}
 
 
 def tell(compared, most):

@@ -10,7 +10,7 @@ import re
 import sys
 
 CLASSES = ("ident", "word", "literal", "punct")
-LANGUAGES = ("any", "go", "c", "java")
+LANGUAGES = ("any", "go", "c", "java", "js", "ts")
 METRICS = ("lines", "ncloc", "files", "complexity", "duplicated_lines", "duplicated_blocks", "duplicated_files",
            "duplicated_lines_density")
 
@@ -63,7 +63,7 @@ def is_path(path):
 
 
 def read_file(body, head):
-    path, change, lang, state = body.text(), body.number(8), LANGUAGES[body.below(4)], body.below(3)
+    path, change, lang, state = body.text(), body.number(8), LANGUAGES[body.below(len(LANGUAGES))], body.below(3)
     expect(is_path(path) and 1 <= change <= head["version"], f"{path!r} or its change {change}")
     fault = body.number(4) if state == 1 else None
     lines, ncloc, complexity = body.number(8), body.number(8), body.number(8)

@@ -29,8 +29,8 @@ def make(folder: Path, *names: str) -> None:
 
 
 def test_folders_and_files(tmp_path: Path) -> None:
-    make(tmp_path, "a/x.c", "a/b/y.go", "a/z.txt", "c/w.java", "c/.git/v.c", "u.h")
-    assert paths(tmp_path) == ["a/b/y.go", "a/x.c", "c/w.java", "u.h"]
+    make(tmp_path, "a/x.c", "a/b/y.go", "a/z.txt", "c/w.java", "c/.git/v.c", "u.h", "v.mjs", "w.jsx", "x.ts", "y.tsx")
+    assert paths(tmp_path) == ["a/b/y.go", "a/x.c", "c/w.java", "u.h", "v.mjs", "w.jsx", "x.ts"]
     assert paths(tmp_path, tmp_path / "a", tmp_path / "u.h", tmp_path / "a" / "x.c") == ["a/b/y.go", "a/x.c", "u.h"]
 
 

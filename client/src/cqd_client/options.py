@@ -169,7 +169,7 @@ def add_files(one: argparse.ArgumentParser) -> None:
     group.add_argument("--include", metavar="PATTERN", type=text, action="append", help="only files that fit; repeatable")
     group.add_argument("--exclude", metavar="PATTERN", type=text, action="append", help="no files that fit; repeatable")
     group.add_argument("--map", metavar="PATTERN=LANG", type=text, action="append",
-                       help="read files that fit as any, go, c or java, as '*.kt=java'; repeatable")
+                       help="read files that fit as any, go, c, java, js or ts, as '*.kt=java'; repeatable")
     group.add_argument("--any", metavar="PATTERN", type=text, action="append",
                        help="also upload files that fit, as plain text, if their ending has no language; repeatable")
     group.add_argument("--encoding", metavar="NAME", help="the encoding of files that are not UTF-8, as latin-1")

@@ -8,9 +8,8 @@ from dataclasses import dataclass
 from typing import Iterator, Optional
 
 from .findings import Group, Place, Report
-from .tokens import PATTERNS, Token, tokens_of
-
-LANGUAGES = {".java": "java", ".go": "go", ".c": "c", ".h": "c"}
+from .tokens import LANGUAGES, Token, tokens_of
+from .tree import LANGUAGE_OF
 
 
 @dataclass(frozen=True)
@@ -63,8 +62,8 @@ class Sources:
             starts.append(at + 1)
             at = text.find("\n", at + 1)
         file = self.files.get(path)
-        lang = file.lang if file else LANGUAGES.get(path[path.rfind("."):], "any")
-        tokens = tuple(tokens_of(text, lang)) if lang in PATTERNS else None
+        lang = file.lang if file else LANGUAGE_OF.get(path[path.rfind("."):], "any")
+        tokens = tuple(tokens_of(text, lang)) if lang in LANGUAGES else None
         if file and tokens is not None and len(tokens) != file.tokens:
             tokens = None
         return Source(text, tuple(starts), tokens)

@@ -8,7 +8,9 @@ from __future__ import annotations
 
 import bisect
 import re
-from typing import Iterator, Tuple
+from typing import Iterable, Iterator, Tuple
+
+from . import javascript
 
 # A token as a range of characters of its text: where it begins, and where it ends. An inserted semicolon of Go is empty.
 Token = Tuple[int, int]
@@ -47,6 +49,7 @@ C = re.compile(COMMENT.format(line_end="") + r"""|(?P<token>(?!(?<![^\n])(?:\#|%
 ANY = re.compile(r"\s*(?:(?P<comment>(?!))|(?P<token>\w+|[^\w\s]))")
 
 PATTERNS = {"java": JAVA, "go": GO, "c": C, "any": ANY}
+LANGUAGES = frozenset((*PATTERNS, "js", "ts"))
 MARK = re.compile("CPD-(OFF|ON)")
 SPLICE = re.compile(r"\\\r?\n")
 GO_LAST = re.compile(r"""[\w"'`]|\.[0-9]|\+\+$|--$|[)\]}]$""")
@@ -60,19 +63,19 @@ def tokens_of(text: str, lang: str) -> list[Token]:
         return [(start + 1, end + 1) for start, end in tokens_of(text[1:], lang)]
     if lang == "c" and SPLICE.search(text):
         return unspliced(text)
-    pattern = PATTERNS[lang]
+    matches = PATTERNS[lang].finditer(text) if lang in PATTERNS else javascript.matches_of(text, lang == "ts")
     if lang == "go":
-        return list(with_semicolons(text, all_tokens(text, pattern)))
+        return list(with_semicolons(text, all_tokens(matches)))
     if lang != "c" and "CPD-O" not in text:
-        return [match.span(TOKENS) for match in pattern.finditer(text) if match.lastindex == TOKENS]
-    return [token for token, is_listed in all_tokens(text, pattern) if is_listed]
+        return [match.span(TOKENS) for match in matches if match.lastindex == TOKENS]
+    return [token for token, is_listed in all_tokens(matches) if is_listed]
 
 
-def all_tokens(text: str, pattern: re.Pattern[str]) -> list[tuple[Token, bool]]:
+def all_tokens(matches: Iterable[re.Match[str]]) -> list[tuple[Token, bool]]:
     """Each token with whether it is listed."""
     found = []
     is_listed = True
-    for match in pattern.finditer(text):
+    for match in matches:
         if match.lastindex == TOKENS:
             found.append((match.span(TOKENS), is_listed))
         elif match.lastindex == COMMENTS:
@@ -109,5 +112,5 @@ def unspliced(text: str) -> list[Token]:
         passed = (bisect.bisect_left if is_end else bisect.bisect_right)(kept_until, at)
         return at + (removed[passed - 1] if passed else 0)
 
-    found = all_tokens(SPLICE.sub("", text), C)
+    found = all_tokens(C.finditer(SPLICE.sub("", text)))
     return [(place(start, False), place(end, True)) for (start, end), is_listed in found if is_listed]

@@ -18,11 +18,12 @@ from .notes import Notes
 from .patterns import Patterns
 from .wording import counted
 
-LANGUAGES = {".java": "java", ".go": "go", ".c": "c", ".h": "c"}
-NAMES = ("any", "go", "c", "java")
+LANGUAGE_OF = {".java": "java", ".go": "go", ".c": "c", ".h": "c", ".js": "js", ".mjs": "js", ".cjs": "js", ".jsx": "js",
+               ".ts": "ts", ".mts": "ts", ".cts": "ts"}
+NAMES = ("any", "go", "c", "java", "js", "ts")
 # Endings of code that is read only if an option says how.
-OTHER_CODE = frozenset(""".c++ .cc .cpp .cs .cxx .dart .groovy .h++ .hh .hpp .hxx .inc .js .jsx .kt .kts .lua .m .mjs .mm .php .pl .pm .py .rb
-    .rs .scala .swift .ts .tsx .vb""".split())
+OTHER_CODE = frozenset(""".c++ .cc .cpp .cs .cxx .dart .groovy .h++ .hh .hpp .hxx .inc .kt .kts .lua .m .mm .php .pl .pm .py .rb
+    .rs .scala .swift .tsx .vb""".split())
 
 
 @dataclass(frozen=True)
@@ -49,7 +50,7 @@ class Choice:
         pattern = self.maps.first(path)
         if pattern is not None:
             return self.languages[pattern]
-        return LANGUAGES.get(ending_of(path)) or ("any" if self.plain.fit(path) else None)
+        return LANGUAGE_OF.get(ending_of(path)) or ("any" if self.plain.fit(path) else None)
 
 
 @dataclass

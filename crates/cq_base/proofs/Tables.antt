@@ -1,5 +1,5 @@
 -- The tables of codes and names are read back.
-use Rattle.std.proofs.Common.{◌≡◌, ℕ, Bool, true, false, cond, List, [], ◌∷◌, Option, Some, refl, sym, subst}
+use Rattle.std.proofs.Common.{◌≡◌, ℕ, Bool, true, false, cond, List, [], ◌∷◌, Option, Some, refl, sym, ap, ◌∙◌, subst}
 use Rattle.std.specs.Prelude.{◌==◌}
 use Rattle.std.specs.List.{find}
 use Rattle.std.specs.Str.{bytes_eq}
@@ -38,18 +38,32 @@ lang_found lang.Any = refl
 lang_found lang.Go = refl
 lang_found lang.C = refl
 lang_found lang.Java = refl
+lang_found lang.Js = refl
+lang_found lang.Ts = refl
 
 lang_by_name : (l : Lang) → with_name lang_name langs (lang_name l) ≡ Some l
 lang_by_name lang.Any = refl
 lang_by_name lang.Go = refl
 lang_by_name lang.C = refl
 lang_by_name lang.Java = refl
+lang_by_name lang.Js = refl
+lang_by_name lang.Ts = refl
+
+-- two with one code are the same
+one_code : {X : Type 0} (code_of : X → ℕ) (xs : List X) → ((x : X) → with_code code_of xs (code_of x) ≡ Some x) → (a b : X) → code_of a ≡ code_of b → a ≡ b
+one_code code_of xs found a b e = some_is a b (sym (found a) ∙ ap (with_code code_of xs) e ∙ found b)
+
+pub one_lang : (a b : Lang) → lang_code a ≡ lang_code b → a ≡ b
+one_lang = one_code lang_code langs lang_found
 
 class_found : (c : Class) → with_code class_code classes (class_code c) ≡ Some c
 class_found class.Ident = refl
 class_found class.Word = refl
 class_found class.Literal = refl
 class_found class.Punct = refl
+
+pub one_class : (a b : Class) → class_code a ≡ class_code b → a ≡ b
+one_class = one_code class_code classes class_found
 
 metric_found : (m : Metric) → with_code metric_code metrics (metric_code m) ≡ Some m
 metric_found metric.Lines = refl

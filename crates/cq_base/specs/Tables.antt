@@ -35,15 +35,19 @@ lang_code lang.Any = 0
 lang_code lang.Go = 1
 lang_code lang.C = 2
 lang_code lang.Java = 3
+lang_code lang.Js = 4
+lang_code lang.Ts = 5
 
 abbrev pub lang_name : Lang → List ℕ
 lang_name lang.Any = codes "any"
 lang_name lang.Go = codes "go"
 lang_name lang.C = codes "c"
 lang_name lang.Java = codes "java"
+lang_name lang.Js = codes "js"
+lang_name lang.Ts = codes "ts"
 
 abbrev pub langs : List Lang
-langs = lang.Any ∷ lang.Go ∷ lang.C ∷ lang.Java ∷ []
+langs = lang.Any ∷ lang.Go ∷ lang.C ∷ lang.Java ∷ lang.Js ∷ lang.Ts ∷ []
 
 abbrev pub lang_coded : ℕ → Option Lang
 lang_coded code = with_code lang_code langs code

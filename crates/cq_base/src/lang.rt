@@ -1,6 +1,6 @@
 ghost use Rattle.std.specs.Prelude.{◌≡◌, ◌==◌};
 ghost use Rattle.std.specs.Str.{bytes_eq};
-ghost use Rattle.cq_base.specs.Tables.{lang_code, lang_name, langs, lang_coded, lang_named, with_name};
+ghost use Rattle.cq_base.specs.Tables.{lang_code, lang_name, langs, lang_coded, lang_named, with_code, with_name};
 
 /// The language of a file. No two of them have a token in common.
 #[derive(Clone, Copy, Debug, PartialEq, Eq, PartialOrd, Ord)]
@@ -10,9 +10,25 @@ pub enum Lang {
     Go,
     C,
     Java,
+    /// JavaScript, with JSX.
+    Js,
+    /// TypeScript, without JSX.
+    Ts,
 }
 
-const LANGS: [Lang; 4] = [Lang::Any, Lang::Go, Lang::C, Lang::Java];
+const LANGS: [Lang; 6] = [Lang::Any, Lang::Go, Lang::C, Lang::Java, Lang::Js, Lang::Ts];
+
+// The first with this code.
+fn first_coded(langs: &[Lang], code: u8) -> Option<Lang>
+    ensures { result ≡ with_code lang_code langs.now code }
+{
+    for lang in langs {
+        if lang.has_code(code) {
+            return Some(*lang);
+        }
+    }
+    None
+}
 
 // The first with this name.
 fn first_named(langs: &[Lang], name: &str) -> Option<Lang>
@@ -43,6 +59,8 @@ impl Lang {
             Lang::Go => 1,
             Lang::C => 2,
             Lang::Java => 3,
+            Lang::Js => 4,
+            Lang::Ts => 5,
         }
     }
 
@@ -55,6 +73,8 @@ impl Lang {
             Lang::Go => "go",
             Lang::C => "c",
             Lang::Java => "java",
+            Lang::Js => "js",
+            Lang::Ts => "ts",
         }
     }
 
@@ -74,7 +94,7 @@ impl Lang {
     pub fn of_code(code: u8) -> Option<Lang>
         ensures { result ≡ lang_coded code }
     {
-        Lang::all().iter().find(|lang| lang.has_code(code)).copied()
+        first_coded(Lang::all(), code)
     }
 
     /// The language with this name.

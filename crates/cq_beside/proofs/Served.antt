@@ -1,4 +1,4 @@
--- What was served: in the words of the session's pass, and behind the session.
+-- What was served: in the words of the session's pass, and after the session.
 use Rattle.std.proofs.Common.{◌≡◌, ℕ, List, subst, subst₂, sym}
 use Rattle.cq_base.specs.declared.settings.Settings.{Settings}
 use Rattle.cq_history.specs.declared.event.Event.{Event}

@@ -6,7 +6,7 @@ ghost use Rattle.cq_cells.specs.Passes.{by_of};
 ghost use Rattle.cq_history.specs.declared.event.Event.{Event as Happened};
 ghost use Rattle.cq_history.specs.State.{view_of};
 ghost use Rattle.cq_shared.specs.SharedPasses.{IsPassOf, settings_of, callers_of, state_of};
-ghost use Rattle.cq_beside.specs.Besides.{Besides, Worked};
+ghost use Rattle.cq_beside.specs.Besides.{Besides, IsSetTo, Worked};
 
 use cq_base::Settings;
 use cq_chain::Pass;
@@ -30,7 +30,7 @@ pub(crate) trait Talker<L: Ledger, R: Wait> {
     // what it needs
     ghost MayTalk: { Self → Type 0 };
 
-    // What it was and what it tells, by how many callers there are, its caller's number, what its pass had seen before and
+    // What it was and what it returns, by how many callers there are, its caller's number, what its pass had seen before and
     // has seen then, and how many buckets it has asked for.
     ghost Said: { Self → Self.Told → ℕ → ℕ → List Happened → List Happened → ℕ → Type 0 };
 
@@ -137,14 +137,12 @@ pub(crate) fn beside<
     let (mine, rest) = join(
         floor.rt,
         move || -> Pass<Work<L>>
-            requires { IsInRange floor.now.settings.now
-                × (settings_of floor.now.hub.now ≡ floor.now.settings.now)
+            requires { IsSetTo floor.now.settings.now floor.now.hub.now
                 × IsPassOf floor.now.hub.now mine }
             ensures { Worked floor.entry.now.hub.now mine result }
         { labour(floor, mine) },
         move || -> (T::Told, Pass<Work<L>>)
-            requires { IsInRange floor.now.settings.now
-                × (settings_of floor.now.hub.now ≡ floor.now.settings.now)
+            requires { IsSetTo floor.now.settings.now floor.now.hub.now
                 × T.MayTalk talker × (settings_of floor.now.hub.now ≡ T.settings talker)
                 × IsPassOf floor.now.hub.now pass × (fewer < pass.room) }
             ensures { Besides floor.entry.now.hub.now pass fewer result.1

@@ -1,11 +1,9 @@
-ghost use Rattle.std.specs.Prelude.{◌≡◌, ◌+◌, ◌<◌};
+ghost use Rattle.std.specs.Prelude.{◌≡◌, ◌<◌};
 ghost use Rattle.cq_base.specs.Settings.{IsInRange};
 ghost use Rattle.cq_lines.specs.Runs.{IsFresh};
-ghost use Rattle.cq_lines.specs.Serving.{HasCauseOfEnd, ServesLines};
-ghost use Rattle.cq_reply.specs.Written.{line_of};
-ghost use Rattle.cq_shared.specs.SharedPasses.{IsPassOf, settings_of, callers_of};
-ghost use Rattle.cq_beside.specs.Replies.{AreWithWorkers};
-ghost use Rattle.cq_beside.specs.Served.{IsServed, IsFirst};
+ghost use Rattle.cq_lines.specs.Serving.{HasCauseOfEnd};
+ghost use Rattle.cq_shared.specs.SharedPasses.{IsPassOf, settings_of};
+ghost use Rattle.cq_beside.specs.Served.{ServesBeside, ServesClient};
 
 use crate::joining::{Floor, Talker, beside};
 use cq_base::Steps;
@@ -101,17 +99,18 @@ fn take_back<S, K, T>(source: &mut S, sink: &mut K, steps: &mut T)
     ensures steps { steps.new ≡ steps.old }
 {}
 
-/// So many workers, whose passes are split from this one.
+/// How many workers there are, and the pass that theirs are split from.
 #[derive(Drop)]
 pub struct Crew<L: Ledger> {
     pub workers: u32,
     pub pass: Pass<Work<L>>,
 }
 
-/// One session on this thread, with workers beside it until its end. Each worker has a thread, a pass and a keyer
-/// of its own, and sleeps on a bell that rings after each accepted change. One for which no thread can be made runs after
-/// the session, and ends at once. The passes of the workers, and then that of the session, are split from the crew's, such as
-/// a new hub's first pass, and end in it. The gate is told what `session` and the workers' turns tell it, from their threads.
+/// One session on this thread, with workers beside it until its end. Each worker has a thread, a pass and a keyer of its own,
+/// and sleeps on a bell that rings after each accepted change. One for which no thread can be made runs after the session,
+/// and ends at once. The passes of the workers, and then that of the session, are split from the crew's, such as a new hub's
+/// first pass, and end in it. The gate is called from the threads of the session and of the workers, as `session` and `turn`
+/// say.
 pub fn serve_one<
     Q: Threads + Wait + Sync,
     L: Ledger + Send + Sync,
@@ -132,12 +131,11 @@ pub fn serve_one<
     requires hub_settings { settings_of server.now.hub.now ≡ server.now.keyer.now.settings }
     requires of { IsPassOf server.now.hub.now crew.pass }
     requires room { crew.workers < crew.pass.room }
-    ensures served { IsServed S.Source K.Sink server.now.keyer.now.settings
-        (callers_of server.now.hub.now) (crew.pass.next + crew.workers) crew.pass.seen steps.old steps.new
+    ensures served { ServesClient S.Source K.Sink server.now.keyer.now.settings server.now.hub.now
+        crew.pass crew.workers steps.old steps.new
         lines.old.limit source.old source.new sink.old sink.new result }
-    ensures beside { IsFirst server.now.hub.now crew.pass
-        → ServesLines S.Source K.Sink line_of
-        (AreWithWorkers server.now.keyer.now.settings (callers_of server.now.hub.now) crew.workers steps.old steps.new)
+    ensures beside { ServesBeside S.Source K.Sink server.now.keyer.now.settings server.now.hub.now
+        crew.pass crew.workers steps.old steps.new
         lines.old.limit source.old source.new sink.old sink.new result }
     ensures cause { HasCauseOfEnd S.Source K.Sink source.old source.new sink.old sink.new result }
 {

@@ -74,7 +74,7 @@ module _ (slots : List Slot) (floor : ℕ) (free : FreeChanges) (are : AreFree s
   none_where_empty empty k lt =
       false_from_ne_true _ (λ there. both_ways (was_given free k) (ap (list_any (is_index k)) empty) (are.given k lt there))
 
-  -- the change at the top, and those behind it
+  -- the change at the top, and those after it
   module _ (new : FreeChanges) (x : Reverse ℕ) (perm : IsPermutation (heap_items free.given_back) (x ∷ heap_items new.given_back)) where
     top_passed : All (λ given. floor ≤ given.0) (heap_items new.given_back)
     top_passed = All-tail (λ given. floor ≤ given.0) x (heap_items new.given_back) (All-permutation (λ given. floor ≤ given.0) (heap_items free.given_back) (x ∷ heap_items new.given_back) perm are.passed)
@@ -274,7 +274,7 @@ module _ (slots : List Slot) (floor : ℕ) (free : FreeChanges) (are : AreFree s
         ap (λ (s : Slot). is_none s.holder) (get_or_append_left slots (slot ∷ []) no_slot given.0 (omega (arith, low, most))) ∙ All-contains (IsLoose slots) (heap_items free.given_back) given are.loose has);
   }
 
-  -- ---- a higher floor, where all that are left are behind it
+  -- ---- a higher floor, where all that are left are after it
 
   pub higher_free : (high : ℕ) (new : FreeChanges) → floor ≤ high → high ≤ prefix_len is_done slots → new.given_back ≡ free.given_back → new.untaken ≡ max free.untaken high → All (λ given. high ≤ given.0) (heap_items free.given_back) → AreFree slots high new
   higher_free high new low done same until behind =
@@ -306,11 +306,11 @@ first_can slots i first within = ap (λ n. is_free (get_or slots n no_slot)) fir
 pub top_below : (slots : List Slot) (floor : ℕ) (free : FreeChanges) → AreFree slots floor free → (x : Reverse ℕ) → x ≡ get_or (heap_items free.given_back) 0 x → 0 < length (heap_items free.given_back) → x.0 < free.untaken
 top_below slots floor free are x top some = subst (λ (y : Reverse ℕ). y.0 < free.untaken) (sym top) (All-get_or (λ given. given.0 < free.untaken) (heap_items free.given_back) 0 x some are.below)
 
--- and behind the floor
+-- and above the floor
 pub top_behind : (slots : List Slot) (floor : ℕ) (free : FreeChanges) → AreFree slots floor free → (x : Reverse ℕ) → x ≡ get_or (heap_items free.given_back) 0 x → 0 < length (heap_items free.given_back) → floor ≤ x.0
 top_behind slots floor free are x top some = subst (λ (y : Reverse ℕ). floor ≤ y.0) (sym top) (All-get_or (λ given. floor ≤ given.0) (heap_items free.given_back) 0 x some are.passed)
 
--- where the least is behind a place, all are
+-- where the least is after a place, all are
 pub all_behind : (high : ℕ) (x : Reverse ℕ) (all : List (Reverse ℕ)) → IsUpperBound least_first x all → high ≤ x.0 → All (λ given. high ≤ given.0) all
 all_behind high x all least le = All-from_contains (λ given. high ≤ given.0) all (λ given has. let low = least_of x all given least has in omega (arith, low, le))
   where

@@ -3,6 +3,7 @@ pub mod Advances
 pub mod Causes
 pub mod Floors
 pub mod Freeing
+pub mod Jobs
 pub mod LiveKept
 pub mod Living
 pub mod Newer

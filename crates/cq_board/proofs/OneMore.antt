@@ -43,7 +43,7 @@ module _ {W : Type 0} (IsWork : Lang → List ℕ → W → Type 0) (settings : 
   listed_within : listed ≤ length slots
   listed_within = ⊎_elim (λ same. omega (arith, same, published_within)) (λ none. omega (arith, none)) ok.listed_is
 
-  -- each change behind the floor may be given back
+  -- each change above the floor may be given back
   pub room_enough : length slots - floor ≤ room_of free
   room_enough =
       let above = above_kept (changes_of slots) floor (omega (arith, ok.in_order.0, published_within, many_changes)) in

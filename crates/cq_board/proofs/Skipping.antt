@@ -81,7 +81,7 @@ module _ (a : Accepted) where
       ∙ kept_stands (changes_of a.slots) a.floor n within (subst (Holds a) (sym up) held)
       ∙ ap (λ (d : Change). blanks a n ++ d ∷ []) (get_or-map (λ (s : Slot). s.change) a.slots n no_slot no_change (omega (arith, within, all_accepted a.slots)) ∙ sym is)
 
-  -- a change behind the floor is kept
+  -- a change above the floor is kept
   pub held_behind : (before version : ℕ) → before + 1 ≡ version → a.floor ≤ before → version ≤ prefix_len is_done a.slots → Holds a version
   held_behind before version one behind done = ((omega (arith, one), done_few a.slots version done), λ gone. omega (arith, gone.within, one, behind))
 

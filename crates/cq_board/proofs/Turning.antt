@@ -1,4 +1,4 @@
--- The numbers that are left of some, and what comes next behind one change more.
+-- The numbers that are left of some, and what comes next after one change more.
 use Rattle.std.specs.Arc.{arc_value}
 use Rattle.std.proofs.Common.{◌≡◌, ◌≢◌, ◌⊎◌, ◌↔◌, ℕ, zero, suc, ◌+◌, ◌<◌, ◌≤◌, nat_eq, not, true≢false, cond, List, [], ◌∷◌, ◌++◌, length, take, get_or, Option, Some, None, Ok, Err, Result, refl, sym, ap, ◌∙◌, subst, subst₂, inl, inr, ⊎_elim, arith, rules}
 use Rattle.std.specs.Prelude.{Contains, IfOk, OnOk, OnErr}

@@ -26,7 +26,7 @@ cause_among absent full long = if absent then Some Absent else (if full then Som
 abbrev pub refusal_of : Settings → State → Change → Option Refused
 refusal_of set s change = cause_among (is_absent s change) (is_full set s) (is_long set s change)
 
--- it is accepted only where nothing is against it; the answer is the first cause against it, or want of memory
+-- it is accepted only if nothing is against it; the answer is the first cause against it, or that memory was refused
 abbrev pub TellsCause : Settings → State → Change → Result ℕ Refused → Type 0
 TellsCause set s change result = MatchResult result (λ _. refusal_of set s change ≡ None) (λ e. (e ≡ Memory) ⊎ (refusal_of set s change ≡ Some e))
 

@@ -35,7 +35,7 @@ module _ {W : Type 0} where
     -- each change may be given back with no memory taken
     pub room : a.settings.change_limit ≤ room_of free
     pub in_order : (a.floor ≤ published) × (published ≤ prefix_len is_done a.slots)
-    -- the listing is that of the published version, or of version 0 where memory was refused
+    -- the listing is that of the published version, or of version 0 if memory was refused
     pub listed_is : (listed ≡ published) ⊎ (listed ≡ 0)
     pub listing : IsListing IsWork (take listed (changes_of a.slots)) l
     -- they are counted in 32 bits

@@ -43,7 +43,7 @@ IsFirstJob s job = job.change ≡ first_free s
 abbrev pub AddsTaking : ℕ → BoardState → BoardState → Job → Type 0
 AddsTaking by old new job = Adds (event.Took by job.change) old new
 
--- without a job nothing has changed, and there is one only where a change was free
+-- without a job nothing has changed, and there is one only if a change was free
 abbrev pub TellsFree : BoardState → BoardState → Option Job → Type 0
 TellsFree old new job = MatchOption job (new ≡ old) (λ _. HasFree old.state)
 

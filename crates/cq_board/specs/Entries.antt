@@ -20,7 +20,7 @@ module _ (IsWindow : Lang → List ℕ → ℕ → ℕ → Type 0) where
     pub window : IsWindow file.lang file.body e.at key
     pub same_key : e.key ≡ key
 
-  -- the entries of the version with the key where the key is the shard's, and else none, by change and place
+  -- the entries of the version with the key if the key is the shard's, and else none, by change and place
   abbrev pub AreEntriesAt : ℕ → ℕ → List Change → ℕ → ℕ → List Entry → Type 0
   AreEntriesAt shards shard changes version key entries = AreAllInOrder EntryBefore (λ e. (key % shards ≡ shard) × IsEntryAt changes version key e) entries
 

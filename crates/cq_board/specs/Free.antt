@@ -36,7 +36,7 @@ IsNoneHeldFrom slots i = (k : ℕ) → i ≤ k → is_none (slice_index_or slots
 abbrev pub AreHeaped : FreeChanges → Type 0
 AreHeaped free = IsHeap least_first (heap_items free.given_back)
 
--- each of them is behind the floor
+-- each of them is above the floor
 abbrev pub AreBehind : ℕ → FreeChanges → Type 0
 AreBehind floor free = All (λ given. floor ≤ given.0) (heap_items free.given_back)
 
@@ -55,17 +55,17 @@ pub record AreFree (slots : List Slot) (floor : ℕ) (free : FreeChanges) : Type
   -- none from the index on was ever taken
   pub untaken : IsNoneHeldFrom slots free.untaken
   pub within : free.untaken ≤ length slots
-  -- each of them is behind the floor and there once, and nobody has it: so there is room for each that somebody has, where there
-  -- is room for all behind the floor
+  -- each of them is above the floor and there once, and nobody has it: so there is room for each that somebody has, if there
+  -- is room for all above the floor
   pub passed : AreBehind floor free
   pub once : AllPairs AreOthers (heap_items free.given_back)
   pub loose : All (IsLoose slots) (heap_items free.given_back)
 
--- the index is the first that was given back, where it is one that was taken before
+-- the index is the first that was given back, if it is one that was taken before
 abbrev pub IsNext : FreeChanges → ℕ → Type 0
 IsNext free i = i < free.untaken → (d : Reverse ℕ) → (slice_index_or (heap_items free.given_back) 0 d).0 ≡ i
 
--- whatever slots and floor they were those of, where the first free change is at the index, they are those of the slots in
+-- whatever slots and floor they were those of, if the first free change is at the index, they are those of the slots in
 -- which somebody has it
 abbrev pub TakesFirst : ℕ → FreeChanges → FreeChanges → Type 0
 TakesFirst i old new =
@@ -76,10 +76,10 @@ TakesFirst i old new =
 abbrev pub AreFreeOnceGiven : List Slot → ℕ → ℕ → FreeChanges → Type 0
 AreFreeOnceGiven slots floor i free = (slot : Slot) → is_none slot.holder ≡ true → AreFree (slice_set slots i slot) floor free
 
--- whatever slots and lower floor they were those of, where all up to the floor is done, they are those of this one
+-- whatever slots and lower floor they were those of, if all up to the floor is done, they are those of this one
 abbrev pub RisesTo : ℕ → FreeChanges → FreeChanges → Type 0
 RisesTo floor old new = (slots : List Slot) (low : ℕ) → low ≤ floor → floor ≤ prefix_len is_done slots → AreFree slots low old → AreFree slots floor new
 
--- whatever slots and floor they were those of, where all up to this floor is done, they still are
+-- whatever slots and floor they were those of, if all up to this floor is done, they still are
 abbrev pub AreFreeStill : ℕ → FreeChanges → FreeChanges → Type 0
 AreFreeStill floor old new = (slots : List Slot) (low : ℕ) → floor ≤ prefix_len is_done slots → AreFree slots low old → AreFree slots low new

@@ -1,4 +1,4 @@
--- Where the numbers of the puts that a floor keeps stand.
+-- Where the numbers of the puts that a floor keeps are.
 use Rattle.std.specs.Prelude.{ℕ, List}
 use Rattle.std.specs.Arc.{arc_value}
 use Rattle.cq_board.specs.declared.keep.Source.{Source}

@@ -35,7 +35,7 @@ AreTurned put gone old new = (r : ℕ) → Contains new r ↔ (Contains (old ++ 
 abbrev pub TurnsOver : Turnover → List ℕ → List ℕ → Type 0
 TurnsOver turnover old new = AreTurned turnover.put.items turnover.gone.items old new
 
--- The listing has these projects. Its numbers are those of an earlier one, with those that were put behind them, but for
+-- The listing has these projects. Its numbers are those of an earlier one, with those that were put after them, but for
 -- those that are gone.
 pub record IsNext {W : Type 0} (IsWork : Lang → List ℕ → W → Type 0) (changes : List Change) (base : List ℕ) (projects : List (ListedProject W)) (put gone : List ℕ) : Type 0 where
   pub listing : IsListing IsWork changes (record { projects = projects; live = left (base ++ put) gone })

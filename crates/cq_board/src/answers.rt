@@ -3,7 +3,7 @@ use std::alloc::{AllocError, AllocFailed, Global};
 use std::sync::Arc;
 use thiserror::Error;
 
-/// What a caller is told of the changes: how many are accepted, up to which all are done, the first that is not done, and
+/// What a caller learns of the changes: how many are accepted, up to which all are done, the first that is not done, and
 /// the last published version.
 #[derive(Clone, Copy, Debug, PartialEq, Eq)]
 pub struct Asked {

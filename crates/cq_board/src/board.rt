@@ -30,7 +30,7 @@ pub struct Board<W: Indexed> {
     undone: BTreeSet<u64>,
     free: FreeChanges,
     published: u64,
-    // The version that the listing is of: the published one, or 0 where memory was refused while it was changed.
+    // The version that the listing is of: the published one, or 0 if memory was refused while it was changed.
     listed: u64,
     views: Vec<Option<u64>>,
     listing: Arc<Listing<W>, Global>,
@@ -74,7 +74,7 @@ impl<W: Indexed> Board<W> {
         })
     }
 
-    /// The job of a change, for anybody who helps; none where the change is done.
+    /// The job of a change, for anybody who helps; none if the change is done.
     pub fn job(&self, change: u64) -> Result<Option<Job>, Memory>
         requires { IsAccepted self.now.state change }
         ensures none { IfOk result (λ job. IsNone job ↔ IsDone self.now.state change) }
@@ -155,8 +155,8 @@ impl<W: Indexed> Board<W> {
         least(self.published, &self.views)
     }
 
-    /// The puts up to the floor that it keeps, ascending. Where the floor is the last published version they are those of
-    /// its listing, and cost an owner of it. Else, and where memory was refused in the middle of the last publication,
+    /// The puts up to the floor that it keeps, ascending. If the floor is the last published version they are those of
+    /// its listing, and cost an owner of it. Else, and if memory was refused in the middle of the last publication,
     /// they are listed by a look at each change that it keeps up to there.
     pub fn keep(&self, alloc: Global) -> Result<Keep<W>, Memory>
         ensures { IfOk result (KeepsPuts self.now.state) }
@@ -263,7 +263,7 @@ impl<W: Indexed> Board<W> {
         Ok(Some(job))
     }
 
-    /// Publishes a version up to which all is done. Where memory is refused, nothing has changed, but that `open` may
+    /// Publishes a version up to which all is done. If memory is refused, nothing has changed, but that `open` may
     /// refuse until `relist` or another publication is through. What it costs is said at the head of the crate.
     pub fn publish(&mut self, alloc: Global, version: u64) -> Result<(), Memory>
         requires above { self.old.state.published < version }
@@ -283,7 +283,7 @@ impl<W: Indexed> Board<W> {
         Ok(())
     }
 
-    /// Makes the listing that of the published version again, from what is kept, where memory was refused while it was
+    /// Makes the listing that of the published version again, from what is kept, if memory was refused while it was
     /// changed. Else it does nothing, and costs nothing.
     pub fn relist(&mut self) -> Result<(), Memory>
         ensures { self.new ≡ self.old }
@@ -300,8 +300,8 @@ impl<W: Indexed> Board<W> {
         Ok(())
     }
 
-    /// Opens a view of the last published version, which costs an owner of its listing. Where memory was refused in the
-    /// middle of a publication and no `relist` or `publish` came through since, it tells so again.
+    /// Opens a view of the last published version, which costs an owner of its listing. If memory was refused in the
+    /// middle of a publication and no `relist` or `publish` came through since, it reports that again.
     pub fn open(&mut self, by: u32) -> Result<View<W>, Memory>
         requires caller { IsCaller self.old by }
         requires closed { view_of self.old.state by ≡ None }
@@ -333,7 +333,7 @@ impl<W: Indexed> Board<W> {
         self.events = self.events.wrapping_add(1);
     }
 
-    /// Gives versions below this one up, and answers whether it may: where it is above the last floor and at most the last
+    /// Gives versions below this one up, and answers whether it may: if it is above the last floor and at most the last
     /// published version and each open view's. What no version from there on needs is forgotten, for a search each. It looks at
     /// each caller's view, and takes no memory.
     pub fn set_floor(&mut self, version: u64) -> bool

@@ -75,7 +75,7 @@ fn first_given_back<W: Indexed>(changes: &Changes<W>, free: &mut FreeChanges) ->
     None
 }
 
-// Whether a change behind the floor, where there is one, is neither done nor taken.
+// Whether a change above the floor, if there is one, is neither done nor taken.
 fn is_free_at<W: Indexed>(changes: &Changes<W>, i: u64) -> bool
     requires { changes.now.floor ≤ i }
     ensures { result ≡ is_free (slice_index_or changes.now.slots i no_slot) }
@@ -122,7 +122,7 @@ pub fn note_taken(free: &mut FreeChanges, i: u64)
     }
 }
 
-/// Notes that a change behind the floor is given back. It takes no memory, and costs a search.
+/// Notes that a change above the floor is given back. It takes no memory, and costs a search.
 pub fn note_given_back<W: Indexed>(changes: &Changes<W>, free: &mut FreeChanges, i: u64)
     requires behind { changes.now.floor ≤ i }
     requires within { i < length changes.now.slots }
@@ -147,7 +147,7 @@ pub fn pass_over(free: &mut FreeChanges, floor: u64)
     free.untaken = free.untaken.max(floor);
 }
 
-// The least ones go up to the first that is behind the floor.
+// The least ones go up to the first that is above the floor.
 fn drop_passed(free: &mut FreeChanges, floor: u64)
     ensures free { AreFreeStill floor free.old free.new }
     ensures passed { AreHeaped free.old → AreBehind floor free.new }

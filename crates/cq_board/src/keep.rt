@@ -13,7 +13,7 @@ pub enum Source<W> {
     Own(Vec<u64>),
 }
 
-/// The numbers of the puts that a floor keeps, ascending. Where they are those of a listing, this is an owner of it.
+/// The numbers of the puts that a floor keeps, ascending. If they are those of a listing, this is an owner of it.
 #[derive(Drop)]
 pub struct Keep<W> {
     source: Source<W>,

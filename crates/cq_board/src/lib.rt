@@ -1,5 +1,5 @@
 //! The board: the accepted changes, who works on them, the published versions and the open views. A call adds its event
-//! to every history for which the board stands, exactly where the event is lawful, or changes nothing. Callers are
+//! to every history for which the board stands, exactly if the event is lawful, or changes nothing. Callers are
 //! numbered from 0.
 //!
 //! What no version from the floor on needs is forgotten as the floor rises: a drop, a put whose file was put or dropped

@@ -58,7 +58,7 @@ impl<W> Listing<W> {
         }
     }
 
-    /// The files of a project, none where it has none. It costs a search among the projects.
+    /// The files of a project, none if it has none. It costs a search among the projects.
     pub fn project(&self, name: &Text) -> &ProjectFiles<W>
         ensures { result.now ≡ files_in self.now.projects name.now }
     {
@@ -68,7 +68,7 @@ impl<W> Listing<W> {
         }
     }
 
-    /// The files of a project in path order, none where it has none. It costs a search among the projects.
+    /// The files of a project in path order, none if it has none. It costs a search among the projects.
     pub fn files(&self, project: &Text) -> &[Arc<Held<W>, Global>]
         ensures { map arc_value result.now ≡ files_in self.now.projects project.now }
     {
@@ -118,7 +118,7 @@ fn kept_at<W: Indexed>(changes: &Changes<W>, number: u64) -> &Kept<W>
     }
 }
 
-// The next change that is kept behind a number, up to a version, and its own number.
+// The next change that is kept after a number, up to a version, and its own number.
 fn next_up_to<W: Indexed>(changes: &Changes<W>, after: u64, version: u64) -> Option<(u64, &Kept<W>)>
     requires { after ≤ length changes.now.slots }
     ensures next { IfSome result (λ p. IsNextHeld changes.now after p.0) }
@@ -139,8 +139,8 @@ fn next_up_to<W: Indexed>(changes: &Changes<W>, after: u64, version: u64) -> Opt
     }
 }
 
-// The listing of a later version, from the drafts of an earlier one's projects and its live numbers. Where that is version 0,
-// the kept changes alone leave the same.
+// The listing of a later version, from the drafts of an earlier one's projects and its live numbers. If that is version 0,
+// only the kept changes leave the same.
 fn next_listing<W: Indexed>(
     alloc: Global,
     changes: &Changes<W>,
@@ -174,7 +174,7 @@ fn next_listing<W: Indexed>(
 }
 
 // The listing with one change more, which is the one with the next number and done. Nothing of it is copied that nobody
-// else has. Where memory is refused, it is that of as many changes as before.
+// else has. If memory is refused, it is that of as many changes as before.
 fn advance_own<W: Indexed>(
     alloc: Global,
     settings: &Settings,
@@ -241,7 +241,7 @@ fn advanced_copy<W: Indexed>(
     next_listing(alloc, changes, drafts, live, before, version)
 }
 
-// Makes a listing that nobody else has that of a later version. Where memory is refused, it is that of version 0.
+// Makes a listing that nobody else has that of a later version. If memory is refused, it is that of version 0.
 fn advance_all<W: Indexed>(
     alloc: Global,
     changes: &Changes<W>,
@@ -283,8 +283,8 @@ fn advance_copied<W: Indexed>(
     Ok(())
 }
 
-// Makes the listing that of a later version, in place where nobody else has it. Where memory is refused, it is that of the
-// version that is told then.
+// Makes the listing that of a later version, in place if nobody else has it. If memory is refused, it is that of the
+// version that is returned then.
 fn advance_many<W: Indexed>(
     alloc: Global,
     changes: &Changes<W>,
@@ -317,7 +317,7 @@ fn advance_many<W: Indexed>(
     }
 }
 
-// The listing of the next version, which is behind the floor, made in place where nobody else has it.
+// The listing of the next version, which is above the floor, made in place if nobody else has it.
 fn advance_one<W: Indexed>(
     alloc: Global,
     changes: &Changes<W>,
@@ -344,10 +344,10 @@ fn advance_one<W: Indexed>(
     }
 }
 
-/// Makes the listing that of a version at or past the one that it is of, and tells which it is of then. What nobody else
-/// has of it is changed in place: one change alone costs a search and a move, several move the files of each project that
+/// Makes the listing that of a version at or past the one that it is of, and returns which it is of then. What nobody else
+/// has of it is changed in place: a single change costs a search and a move, several move the files of each project that
 /// they change once. Of what somebody else has a copy is made first, with an owner for each project, and for each file of a
-/// project that changed. Where memory is refused, it is that of the version before, or of version 0, from which it is made anew
+/// project that changed. If memory is refused, it is that of the version before, or of version 0, from which it is made again
 /// of what is kept.
 pub fn advance_to<W: Indexed>(
     alloc: Global,

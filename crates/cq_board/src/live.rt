@@ -31,7 +31,7 @@ impl Turnover {
     }
 }
 
-/// One more, where there is one.
+/// One more, if there is one.
 pub fn note(gone: &mut Vec<u64>, number: Option<u64>) -> Result<(), Memory>
     ensures { OnOk result (gone.new.items ≡ gone.old.items ++ from_option number) }
 {
@@ -41,7 +41,7 @@ pub fn note(gone: &mut Vec<u64>, number: Option<u64>) -> Result<(), Memory>
     Ok(())
 }
 
-// Takes a number out of rising ones, where it is there.
+// Takes a number out of rising ones, if it is there.
 fn take_out(live: &mut Vec<u64>, number: u64)
     requires { IsStrictlyIncreasing live.old.items }
     ensures rising { IsStrictlyIncreasing live.new.items }
@@ -82,8 +82,8 @@ fn take_out_all(live: &mut Vec<u64>, mut gone: Vec<u64>)
     live.retain(|number| !is_among(gone, *number));
 }
 
-/// Puts the new numbers behind the live ones, and takes out those that are gone: a few by a search and a move each, many
-/// in one walk. Where memory is refused, nothing has changed.
+/// Puts the new numbers after the live ones, and takes out those that are gone: a few by a search and a move each, many
+/// in one walk. If memory is refused, nothing has changed.
 pub fn turn(live: &mut Vec<u64>, turnover: Turnover) -> Result<(), Memory>
     requires { IsStrictlyIncreasing (live.old.items ++ turnover.put.items) }
     ensures rising { OnOk result (IsStrictlyIncreasing live.new.items) }
@@ -112,7 +112,7 @@ pub fn turn_one(live: &mut Vec<u64>, put: Option<u64>, gone: Option<u64>)
     }
 }
 
-// One more, where there is one.
+// One more, if there is one.
 fn append(live: &mut Vec<u64>, number: Option<u64>)
     requires { vec_len live.old + 1 ≤ vec_capacity live.old }
     ensures { live.new.items ≡ live.old.items ++ from_option number }

@@ -28,7 +28,7 @@ pub fn ready_of<W: Indexed>(changes: &Changes<W>, undone: &BTreeSet<u64>) -> u64
     }
 }
 
-/// The change of a number, where it is accepted and not done. What the floor has passed is done.
+/// The change of a number, if it is accepted and not done. What the floor has passed is done.
 pub fn undone_at<W: Indexed>(changes: &Changes<W>, number: u64) -> Option<&Kept<W>>
     requires { changes.now.floor ≤ prefix_len is_done changes.now.slots }
     ensures some { IsSome result ↔ IsUndone (state_from changes.now.slots 0 0 []) number }
@@ -77,7 +77,7 @@ pub fn work_at<W: Indexed>(changes: &Changes<W>, number: u64) -> Option<&Arc<W, 
     }
 }
 
-/// Those of one change more, which is not done where it is a put. Where memory is refused they are as before.
+/// Those of one change more, which is not done if it is a put. If memory is refused they are as before.
 pub fn note_undone<W: Indexed>(
     changes: &Changes<W>,
     undone: &mut BTreeSet<u64>,

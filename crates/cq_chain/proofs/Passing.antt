@@ -86,7 +86,7 @@ module _ (p q : BoardPass) where
   pub unmade_same : IsSameCaller p q → q.seen ≡ p.seen → (0 < p.next → HasNoneFrom p.next p.seen) → 0 < q.next → HasNoneFrom q.next q.seen
   unmade_same same seen unmade pos = subst₂ HasNoneFrom (sym same.next) (sym seen) (unmade (same_next same.next pos))
 
-  -- behind an event of its own, or of nobody
+  -- after an event of its own, or of nobody
   pub unmade_more : (cells : BoardCells) (event : Option Event) → IfSome event (MayAdd cells p) → IsSameCaller p q → q.seen ≡ p.seen ++ option_to_list event
       → (0 < p.next → by_of p < p.next) → (0 < p.next → HasNoneFrom p.next p.seen) → 0 < q.next → HasNoneFrom q.next q.seen
   unmade_more cells event may same seen made unmade pos c from =

@@ -125,7 +125,7 @@ impl<W: Indexed, R> Cells<W, R> {
     }
 
     /// Ends the callers of another pass: this one has then seen what either had, and has their numbers. One of the two had
-    /// seen what the other had. Where the other is the first pass, no more callers are made.
+    /// seen what the other had. If the other is the first pass, no more callers are made.
     pub fn join_pass(&self, pass: &mut Pass<W>, other: Pass<W>)
         requires of { IsPassOf self.now pass.old × IsPassOf self.now other }
         requires free { IsFree pass.old × IsFree other }
@@ -144,7 +144,7 @@ impl<W: Indexed, R> Cells<W, R> {
     }
 
     /// Cells of a board and its shards as they are made, and the pass of the first caller. It takes memory for a word and
-    /// a slot for each; where that is refused, board and shards are given up.
+    /// a slot for each; if that is refused, board and shards are given up.
     pub fn new(
         rt: R,
         alloc: Global,

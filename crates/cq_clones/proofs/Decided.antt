@@ -2,10 +2,8 @@
 use Rattle.std.proofs.Common.{◌≡◌, ◌≢◌, ◌⊎◌, ℕ, List, [], ◌∷◌, length, get_or, drop, refl, ap, ap₂, ◌∙◌, inl, inr, ⊎_elim, arith}
 use Rattle.std.proofs.lemmas.Bool.{cases_order}
 use Rattle.cq_base.specs.declared.norm.Norm.{Norm}
-use Rattle.cq_base.specs.declared.lang.Lang.{Lang}
-use Rattle.cq_base.specs.declared.lang.Lang.TheVariants.{Any, Go, C, Java}
-use Rattle.cq_base.specs.declared.token.Class.{Class}
-use Rattle.cq_base.specs.declared.token.Class.TheVariants.{Ident, Word, Literal, Punct}
+use Rattle.cq_base.specs.Tables.{lang_code, class_code}
+use Rattle.cq_base.proofs.Tables.{one_lang, one_class}
 
 -- each two values are equal or not
 abbrev pub AreDecided : Type 0 → Type 0
@@ -14,41 +12,9 @@ AreDecided X = (a b : X) → (a ≡ b) ⊎ (a ≢ b)
 numbers_decided : AreDecided ℕ
 numbers_decided a b = ⊎_elim (λ e. inl e) (λ other. inr (λ e. ⊎_elim (λ lt. omega arith) (λ lt. omega arith) other)) (cases_order a b)
 
-langs_decided : AreDecided Lang
-langs_decided Any Any = inl refl
-langs_decided Any Go = inr (λ e. cc)
-langs_decided Any C = inr (λ e. cc)
-langs_decided Any Java = inr (λ e. cc)
-langs_decided Go Any = inr (λ e. cc)
-langs_decided Go Go = inl refl
-langs_decided Go C = inr (λ e. cc)
-langs_decided Go Java = inr (λ e. cc)
-langs_decided C Any = inr (λ e. cc)
-langs_decided C Go = inr (λ e. cc)
-langs_decided C C = inl refl
-langs_decided C Java = inr (λ e. cc)
-langs_decided Java Any = inr (λ e. cc)
-langs_decided Java Go = inr (λ e. cc)
-langs_decided Java C = inr (λ e. cc)
-langs_decided Java Java = inl refl
-
-classes_decided : AreDecided Class
-classes_decided Ident Ident = inl refl
-classes_decided Ident Word = inr (λ e. cc)
-classes_decided Ident Literal = inr (λ e. cc)
-classes_decided Ident Punct = inr (λ e. cc)
-classes_decided Word Ident = inr (λ e. cc)
-classes_decided Word Word = inl refl
-classes_decided Word Literal = inr (λ e. cc)
-classes_decided Word Punct = inr (λ e. cc)
-classes_decided Literal Ident = inr (λ e. cc)
-classes_decided Literal Word = inr (λ e. cc)
-classes_decided Literal Literal = inl refl
-classes_decided Literal Punct = inr (λ e. cc)
-classes_decided Punct Ident = inr (λ e. cc)
-classes_decided Punct Word = inr (λ e. cc)
-classes_decided Punct Literal = inr (λ e. cc)
-classes_decided Punct Punct = inl refl
+-- those of a table are, by their codes
+by_code : {X : Type 0} (code_of : X → ℕ) → ((a b : X) → code_of a ≡ code_of b → a ≡ b) → AreDecided X
+by_code code_of one a b = ⊎_elim (λ e. inl (one a b e)) (λ other. inr (λ e. other (ap code_of e))) (numbers_decided (code_of a) (code_of b))
 
 pub lists_decided : (X : Type 0) → AreDecided X → AreDecided (List X)
 lists_decided X each [] [] = inl refl
@@ -77,6 +43,6 @@ norms_decided a b =
     (λ other. inr (λ e. other (ap (λ n. n.text) e)))
     (lists_decided ℕ numbers_decided a.text b.text))
     (λ other. inr (λ e. other (ap (λ n. n.class) e)))
-    (classes_decided a.class b.class))
+    (by_code class_code one_class a.class b.class))
     (λ other. inr (λ e. other (ap (λ n. n.lang) e)))
-    (langs_decided a.lang b.lang)
+    (by_code lang_code one_lang a.lang b.lang)

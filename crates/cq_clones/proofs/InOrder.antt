@@ -51,7 +51,7 @@ in_order_none Before P none = record {
   each = λ z. (λ c. absurd (Contains-nil z c), λ p. absurd (none z p));
 }
 
--- one element more, behind all the others
+-- one element more, after all the others
 pub in_order_push : {X : Type 0} (Before : X → X → Type 0) (P Q : X → Type 0) (xs : List X) (y : X) → AreAllInOrder Before P xs → ((z : X) → P z → Before z y) → ((z : X) → P z → Q z) → Q y → ((z : X) → Q z → P z ⊎ (y ≡ z)) → AreAllInOrder Before Q (xs ++ y ∷ [])
 in_order_push Before P Q xs y is before to here from = record {
   ordered = all_pairs_push Before xs y is.ordered (λ k d lt. before (get_or xs k d) ((is.each (get_or xs k d)).0 (Contains-get_or xs k d lt)));

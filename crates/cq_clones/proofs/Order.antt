@@ -21,7 +21,7 @@ ComesBefore-apart g h a b = grind arith
 pub ComesBefore-trans : (f g h : Group) → ComesBefore f g → ComesBefore g h → ComesBefore f h
 ComesBefore-trans f g h a b = grind arith
 
--- two groups that come neither before nor behind each other
+-- two groups that come neither before nor after each other
 pub ComesBefore-ties : (g h : Group) → (ComesBefore g h → ⊥) → (ComesBefore h g → ⊥) → (first_place g ≡ first_place h) × (g.tokens ≡ h.tokens)
 ComesBefore-ties g h a b = grind arith
 

@@ -21,7 +21,7 @@ use Rattle.cq_core.specs.declared.step.Step.TheVariants.{Accept, Ask, Took, Back
 use Rattle.cq_core.specs.declared.step.Outcome.{Outcome}
 use Rattle.cq_core.specs.declared.step.Outcome.TheVariants as outcome
 
--- for whichever core it stood, it stands for that one behind the step, which it might take
+-- for whichever core it stood, it stands for that one after the step, which it might take
 pub record Takes (IsWindow : Lang → List ℕ → ℕ → ℕ → Type 0) (step : history.Step) (old new : CoreState) : Type 0 where
   pub may : (k : history.Core) → StandsFor IsWindow k old → history.MayStep old.board.settings (length old.board.state.views) k step
   pub core : (k : history.Core) → StandsFor IsWindow k old → StandsFor IsWindow (history.stepped k step) new
@@ -34,7 +34,7 @@ MayPublish c version = (c.board.state.published < version) × (version ≤ ready
 abbrev pub MaySetFloor : CoreState → ℕ → Type 0
 MaySetFloor c version = (c.board.state.floor < version) × (version ≤ c.board.state.published) × All (IsBelow version) c.board.state.views
 
--- the outcome where the step is done, and the one where it is not, each exactly where it is so
+-- the outcome if the step is done, and the one if it is not, each exactly if it is so
 abbrev pub Done-if : Type 0 → Outcome → Outcome → Outcome → Type 0
 Done-if May done not_done o = (May × (o ≡ done)) ⊎ ((May → ⊥) × (o ≡ not_done))
 
@@ -159,7 +159,7 @@ module _ {W : Type 0} (keys_in : W → List ℕ) (IsWorkOf : Settings → Lang �
   Counts old (Floor version) o before now = now ≡ before
   Counts old (Sweep shard) o before now = now ≡ before
 
-  -- one that is refused for want of memory may have counted some of them
+  -- one that is refused memory may have counted some of them
   abbrev pub CountsSome : CoreState → Step W → ℕ → ℕ → Type 0
   CountsSome old (Accept by c) before now = now ≡ before
   CountsSome old (Ask by) before now = now ≡ before

@@ -65,7 +65,7 @@ impl<W: Indexed> Core<W> {
         })
     }
 
-    /// The job of a change, for anybody who helps; none where the change is not accepted or done.
+    /// The job of a change, for anybody who helps; none if the change is not accepted or done.
     pub fn job(&self, change: u64) -> Result<Option<Job>, Memory>
         ensures some { IfOk result (λ job. IsSome job ↔ IsUndone self.now.board.state change) }
         ensures job { IfOk result (λ job. IfSome job (IsJobAt self.now.board.state change)) }
@@ -90,7 +90,7 @@ impl<W: Indexed> Core<W> {
         }
     }
 
-    /// The entries of a shard with a key that belong to files of the caller's view, by change and place; none where it has no
+    /// The entries of a shard with a key that belong to files of the caller's view, by change and place; none if it has no
     /// view open.
     pub fn read(
         &self,
@@ -115,7 +115,7 @@ impl<W: Indexed> Core<W> {
         }
     }
 
-    /// Does a step where it is allowed. Where memory is refused, nothing has changed.
+    /// Does a step if it is allowed. If memory is refused, nothing has changed.
     pub fn step<L: Ledger>(
         &mut self,
         alloc: Global,
@@ -314,7 +314,7 @@ impl<W: Indexed> Core<W> {
     }
 }
 
-// Opens a view of a board's last published version, whose listing is made anew first where memory was refused while it
+// Opens a view of a board's last published version, whose listing is made again first if memory was refused while it
 // was changed.
 fn open_listed<W: Indexed>(board: &mut Board<W>, by: u32) -> Result<View<W>, Memory>
     requires caller { by < length board.old.state.views }

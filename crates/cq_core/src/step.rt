@@ -30,11 +30,11 @@ pub enum Step<W> {
         change: u64,
         work: Arc<W, Global>,
     },
-    /// The shard applies the next change, where all up to that one are done.
+    /// The shard applies the next change, if all up to that one are done.
     Apply {
         shard: u32,
     },
-    /// A version above the last published one is published, where all changes up to it are done, and applied by every shard.
+    /// A version above the last published one is published, if all changes up to it are done, and applied by every shard.
     Publish {
         version: u64,
     },
@@ -46,7 +46,7 @@ pub enum Step<W> {
     Shut {
         by: u32,
     },
-    /// Versions below this one are given up, where it is above the last floor and at most the last published version and
+    /// Versions below this one are given up, if it is above the last floor and at most the last published version and
     /// each open view's.
     Floor {
         version: u64,

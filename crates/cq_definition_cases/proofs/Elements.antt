@@ -81,7 +81,7 @@ module _ (lang : Language) (completed : List ℕ → List Spelled → List Spell
 
 -- ---- C
 
--- `<a>` behind a hash
+-- `<a>` after a hash
 pub a_header_name_needs_the_word_include : IsHeaderAt 1 (codes "<a>") 3 → ⊥
 a_header_name_needs_the_word_include h = is_false h.0
 

@@ -46,6 +46,11 @@ pub a_constructor_call_is_none : map (λ f. f.complexity) (functions lang.Java (
 unfolding partner
 a_constructor_call_is_none e = differ e refl
 
+-- `extends f ( ) { if }`
+pub what_a_class_extends_is_none : map (λ f. f.complexity) (functions lang.Js (word 0 (codes "extends") ∷ with_if)) ≡ 2 ∷ [] → ⊥
+unfolding partner
+what_a_class_extends_is_none e = differ e refl
+
 -- `. f ( ) { if }`
 pub a_call_behind_a_dot_is_none : map (λ f. f.complexity) (functions lang.Java (mark 0 (codes ".") ∷ with_if)) ≡ 2 ∷ [] → ⊥
 unfolding partner

@@ -37,7 +37,7 @@ at_once alone May by old events Says says c h stands =
     (record { mid = old; others = record { more = []; after_is = sym (append-nil old); own_is = refl; alone_is = λ a. tt }; says = says; stands = (refl, refl) }))
 
 module _ (alone : Type 0) (May : Event → Type 0) (by : ℕ) (old new events : List Event) (Says : List Event → Type 0) (call : Calls (stands_for by) alone May by tt new old events Says) where
-  -- how many events the caller has behind it
+  -- how many events the caller has after it
   own_count : length (own by new) ≡ length ((own by old ++ []) ++ own by events)
   own_count =
       ap (λ (es : List Event). length es)
@@ -45,7 +45,7 @@ module _ (alone : Type 0) (May : Event → Type 0) (by : ℕ) (old new events : 
       (ap (own by) call.others.after_is ∙ (own-append by old call.others.more ∙ ap (λ (es : List Event). own by old ++ es) call.others.own_is))))
 
 module _ (alone : Type 0) (May : Event → Type 0) (by callers : ℕ) (old new : List Event) (e : Event) (Says : List Event → Type 0) (call : Calls (stands_for by) alone May by tt new old (e ∷ []) Says) where
-  -- the state behind it is that of the moment which it speaks of, with its event
+  -- the state after it is that of the moment which it speaks of, with its event
   moment : state callers new ≡ after (state callers call.mid) e
   moment = ap (state callers) (sym call.stands.1) ∙ state_push callers call.mid e
 

@@ -22,7 +22,7 @@ abbrev on_line : ℕ → Token
 on_line n = record { class = class.Ident; start = n; len = 1; first_line = n; last_line = n }
 
 abbrev spelled : List ℕ → Spelled
-spelled text = record { token = on_line 1; text = text }
+spelled text = record { token = record { class = class.Word; start = 1; len = 1; first_line = 1; last_line = 1 }; text = text }
 
 abbrev spans : List (List Token)
 spans = (on_line 1 ∷ on_line 2 ∷ on_line 3 ∷ []) ∷ (on_line 1 ∷ on_line 2 ∷ on_line 3 ∷ []) ∷ []
@@ -65,6 +65,9 @@ a_decision_counts_beside_the_one e = omega (arith, e)
 
 pub a_wildcard_decides_nothing : complexity lang.Java (spelled (codes "<") ∷ spelled (codes "?") ∷ []) ≡ 2 → ⊥
 a_wildcard_decides_nothing e = omega (arith, e)
+
+pub a_name_decides_nothing : complexity lang.Js (record { token = on_line 1; text = codes "if" } ∷ []) ≡ 2 → ⊥
+a_name_decides_nothing e = omega (arith, e)
 
 pub a_file_with_two_tallies_counts_once : project.dup_files ≡ 3 → ⊥
 a_file_with_two_tallies_counts_once e = omega (arith, e)

@@ -1,5 +1,5 @@
 -- What a session's answer to a line may not come to.
-use Rattle.std.specs.Prelude.{◌≡◌, ℕ, ◌+◌, ◌<◌, ◌≤◌, max, false, List, [], ◌∷◌, ◌++◌, length, map, Option, None, Some, Ok}
+use Rattle.std.specs.Prelude.{◌≡◌, ℕ, ◌<◌, ◌≤◌, max, false, List, [], ◌∷◌, ◌++◌, length, map, Option, None, Some, Ok}
 use Rattle.std.proofs.Common.{arith, ap, refl, sym, ◌∙◌, inl, inr}
 use Rattle.std.proofs.Math.Nat.{le-max_left}
 use Rattle.cq_definition_cases.proofs.Hubs.{put}
@@ -29,7 +29,7 @@ own_asked : (alone : Type 0) (h after : List Event) → Asks alone 0 h after →
 own_asked alone h after asks = ap (own 0) asks.asks ∙ (own-append 0 asks.mid (event.Ask 0 ∷ []) ∙ ap (λ (es : List Event). es ++ event.Ask 0 ∷ []) (own_grown alone Never h asks.mid [] asks.waits))
 
 module _ (set : Settings) (callers : ℕ) (alone : Type 0) (seen : ℕ) (q : Query) (h after : List Event) where
-  -- those of a query, behind its earlier ones
+  -- those of a query, after its earlier ones
   own_served : (view : Option ℕ) (s : IsServed set callers alone 0 seen q h after view)
       → own 0 after ≡ ((((own 0 h ++ []) ++ event.Ask 0 ∷ []) ++ map (λ (r : ℕ). event.Done 0 r) s.finished) ++ viewed 0 view) ++ []
   own_served view s =

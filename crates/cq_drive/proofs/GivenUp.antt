@@ -42,7 +42,7 @@ module _ (set : Settings) (k : Core) (o : ScriptOutcome) (later : Core) (needs :
   said_stays (Ok step) is = step_stays step is
   said_stays (Err why) is = is.1
 
--- its line, or that of want of memory
+-- its line, or the one that reports out of memory
 pub line_told : (set : Settings) (k later : Core) (line bytes : List ℕ) (o : ScriptOutcome) → IsToldBy o bytes → SaidComesTo set k (step_read set line) o later
     → (p : ScriptOutcome) × ReadComesTo set k line p later × (bytes ≡ line_of p)
 line_told set k later line bytes o (inl same) is = (o, inr is, same)

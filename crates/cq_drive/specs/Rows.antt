@@ -12,7 +12,7 @@ use Rattle.cq_drive.specs.declared.row.StepKind.TheVariants as kind
 use Rattle.cq_drive.specs.declared.row.Field.{Field}
 use Rattle.cq_drive.specs.declared.row.Field.TheVariants as field
 
--- the fields, where the index has so many shards
+-- the fields, if the index has so many shards
 abbrev pub row_of : ℕ → StepKind → List Field
 row_of shards kind.Accept = field.By ∷ field.ChangeRequest ∷ []
 row_of shards kind.Ask = field.By ∷ []
@@ -28,7 +28,7 @@ row_of shards kind.Shut = field.By ∷ []
 row_of shards kind.Floor = field.Version ∷ []
 row_of shards kind.Sweep = field.Shard shards ∷ []
 
--- the whole number that a value is, where it is below a bound
+-- the whole number that a value is, if it is below a bound
 abbrev pub below : ℕ → Data → Option ℕ
 below bound d = option_and_then (λ n. if nat_lt n bound then Some n else None) (number_of d)
 

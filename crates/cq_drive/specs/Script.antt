@@ -46,11 +46,11 @@ Stays k told o later = (o ≡ told) × (later ≡ k)
 abbrev pub Steps : Core → Step → ScriptOutcome → ScriptOutcome → Core → Type 0
 Steps k step told o later = (o ≡ told) × (later ≡ stepped k step)
 
--- the step is taken where it is allowed; elsewhere the other is told, and nothing changes
+-- the step is taken if it is allowed; otherwise the other is reported, and nothing changes
 abbrev pub StepsWhere : Type 0 → Core → Step → ScriptOutcome → ScriptOutcome → ScriptOutcome → Core → Type 0
 StepsWhere May k step told other o later = (May × Steps k step told o later) ⊎ ((May → ⊥) × Stays k other o later)
 
--- A version may be published that is above the last one, where every change up to it is done, and every shard has applied
+-- A version may be published that is above the last one, if every change up to it is done, and every shard has applied
 -- it.
 abbrev pub MayPublish : Core → ℕ → Type 0
 MayPublish k version = ((now k).published < version) × (version ≤ ready (now k)) × All (λ a. version ≤ a) k.applied
@@ -63,7 +63,7 @@ MaySetFloor k version = ((now k).floor < version) × (version ≤ (now k).publis
 abbrev pub IsOfView : Core → ℕ → (ℕ → ScriptOutcome → Type 0) → ScriptOutcome → Type 0
 IsOfView k by Of o = ((version : ℕ) × (view_of (now k) by ≡ Some version) × Of version o) ⊎ ((view_of (now k) by ≡ None) × (o ≡ outcome.No))
 
--- the entries of the version with the key where the key is the shard's, and else none
+-- the entries of the version with the key if the key is the shard's, and else none
 abbrev pub IsRead : Settings → Core → ℕ → ℕ → ℕ → ScriptOutcome → Type 0
 IsRead set k shard key version o = (entries : List Entry) × AreEntriesAt (HasKeyAt set) set.shards shard (accepted k.history) version key entries × (o ≡ outcome.Read entries)
 
@@ -97,7 +97,7 @@ abbrev pub SaidComesTo : Settings → Core → Result ScriptStep Refusal → Scr
 SaidComesTo set k (Ok step) o later = StepComesTo set k step o later
 SaidComesTo set k (Err why) o later = Stays k (outcome.Reply (reply.Refused why)) o later
 
--- a line that is not too long is read; where memory was refused, that is told, and nothing changes
+-- a line that is not too long is read; if memory was refused, that is reported, and nothing changes
 abbrev pub ReadComesTo : Settings → Core → List ℕ → ScriptOutcome → Core → Type 0
 ReadComesTo set k line o later = Stays k (outcome.Reply reply.Memory) o later ⊎ SaidComesTo set k (step_read set line) o later
 

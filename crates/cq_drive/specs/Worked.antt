@@ -1,4 +1,4 @@
--- Steps that were worked out by hand: a put is done and applied by one shard of two, and then by the other; the floor behind
+-- Steps that were worked out by hand: a put is done and applied by one shard of two, and then by the other; the floor after
 -- two versions of one file, and a sweep.
 use Rattle.std.specs.Prelude.{[], ◌∷◌, ◌++◌, codes}
 use Rattle.cq_history.specs.Core.{Core}

@@ -8,7 +8,7 @@ use std::alloc::Global;
 use std::sync::ledger::Ledger;
 
 /// The buckets of a project's files in the view that a caller of a core has open: those of the key's shard, without the
-/// entries of other projects. It is ready where `files` are those that the view's listing has of one project.
+/// entries of other projects. It is ready if `files` are those that the view's listing has of one project.
 #[derive(Drop)]
 pub(crate) struct CoreBuckets<'a, L: Ledger> {
     pub(crate) core: &'a Core<Work<L>>,

@@ -59,8 +59,7 @@ impl<'a, 'd, R: Threads + Sync, L: Ledger> Answers for Driving<'a, 'd, R, L> {
 }
 
 /// Steps a core of sixteen callers by the lines of a source, from nothing accepted on. Windows have the keys of `keyer`.
-/// Each whole outcome is handed to the sink before the next line is cut. Memory is answered before the first line alone,
-/// and then nothing was read or written.
+/// Each whole outcome is handed to the sink before the next line is cut. If it returns `Memory`, nothing was read or written.
 pub fn drive<R: Threads + Sync, L: Ledger, S: Source, K: Sink>(
     driver: &Driver<'_, R>,
     lines: &mut Lines,

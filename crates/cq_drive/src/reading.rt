@@ -152,7 +152,7 @@ fn fault_named(
     }
 }
 
-// The step that a value tells, or why it is refused.
+// The step that a value says, or why it is refused.
 fn step_said(alloc: Global, settings: &Settings, value: Value) -> Result<ScriptStep, ReadError>
     ensures says { UnlessMemory result (spec.step_said settings.now (view value)) }
     ensures sound { IfOk result (IsSoundStep settings.now) }
@@ -170,8 +170,8 @@ fn step_said(alloc: Global, settings: &Settings, value: Value) -> Result<ScriptS
     }
 }
 
-/// The step that a line of a script spells, or why it is refused: `Json` exactly where `serde_json` gives no value for
-/// it, or one that is no object; `Op` where its `step` is none; `Field` names the first field of its row that is
+/// The step that a line of a script spells, or why it is refused: `Json` exactly if `serde_json` gives no value for
+/// it, or one that is no object; `Op` if its `step` is none; `Field` names the first field of its row that is
 /// missing or not of its form, or else the least other key. A line that has none of these has the refusals of the
 /// request in it.
 pub fn read_step(alloc: Global, settings: &Settings, line: &[u8]) -> Result<ScriptStep, ReadError>

@@ -63,14 +63,14 @@ fn kind_named(word: &str) -> Option<StepKind>
     }
 }
 
-/// What an object tells to do, if it names a step.
+/// What an object says to do, if it names a step.
 pub(crate) fn kind_of(value: &Value) -> Option<StepKind>
     ensures { result ≡ rows.kind_of (view value.now) }
 {
     kind_named(text_at(value, "step")?)
 }
 
-/// The whole number that a value is, where it is below a bound.
+/// The whole number that a value is, if it is below a bound.
 pub(crate) fn below(value: &Value, bound: u32) -> Option<u32>
     ensures number { result ≡ rows.below bound (view value.now) }
     ensures less { IfSome result (λ n. n < bound) }
@@ -148,7 +148,7 @@ impl Ruled for Field {
     }
 }
 
-/// The member for which an object is refused that tells this, if there is one.
+/// The member for which an object that says this is refused, if there is one.
 pub(crate) fn fault_of<'v>(settings: &Settings, kind: StepKind, value: &'v Value) -> Option<&'v str>
     ensures { option_copied result ≡ rows.fault_of settings.now.shards kind (view value.now) }
 {

@@ -1,7 +1,7 @@
 use cq_base::Change;
 use cq_request::Query;
 
-/// What a line of a script tells to do. Callers are 0 to 15.
+/// What a line of a script says to do. Callers are 0 to 15.
 #[derive(Debug, Drop)]
 pub enum ScriptStep {
     /// A change is brought.

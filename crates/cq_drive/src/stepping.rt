@@ -30,7 +30,7 @@ fn told(outcome: Outcome) -> ScriptOutcome
     }
 }
 
-/// The outcome of a step of the core. Where memory is refused, nothing has changed.
+/// The outcome of a step of the core. If memory is refused, nothing has changed.
 pub(crate) fn stepped<L: Ledger>(
     alloc: Global,
     settings: &Settings,
@@ -48,7 +48,7 @@ pub(crate) fn stepped<L: Ledger>(
     Ok(told(core.step(alloc, step, steps)?))
 }
 
-/// The work of a change is made, and the change done, where it is accepted and not done. Where memory is refused, nothing
+/// The work of a change is made, and the change done, if it is accepted and not done. If memory is refused, nothing
 /// has changed.
 pub(crate) fn finished<L: Ledger>(
     alloc: Global,

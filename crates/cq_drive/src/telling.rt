@@ -17,7 +17,7 @@ use std::alloc::Global;
 use std::sync::ledger::Ledger;
 use std::thread::Threads;
 
-// The outcome of a step that was read. Where memory is refused, nothing has changed.
+// The outcome of a step that was read. If memory is refused, nothing has changed.
 fn outcome_of<R: Threads + Sync, L: Ledger>(
     driver: &Driver<'_, R>,
     core: &mut Core<Work<L>>,
@@ -62,7 +62,7 @@ fn outcome_of<R: Threads + Sync, L: Ledger>(
     }
 }
 
-// The outcome of a line that is not too long. Where memory is refused, nothing has changed.
+// The outcome of a line that is not too long. If memory is refused, nothing has changed.
 fn said<R: Threads + Sync, L: Ledger>(
     driver: &Driver<'_, R>,
     core: &mut Core<Work<L>>,
@@ -82,7 +82,7 @@ fn said<R: Threads + Sync, L: Ledger>(
     }
 }
 
-// The line of an outcome, or where memory is refused the one that tells that.
+// The line of an outcome, or the one that reports out of memory.
 fn line_or_memory(alloc: Global, told: &ScriptOutcome) -> Line
     requires { IsOutcomeText told.now }
     ensures { IsToldBy told.now (bytes_of result) }

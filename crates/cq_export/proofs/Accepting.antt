@@ -1,4 +1,4 @@
--- Changes that a board accepts one behind the other, and what a line says.
+-- Changes that a board accepts one after the other, and what a line says.
 use Rattle.std.proofs.Common.{◌≡◌, ◌⊎◌, ℕ, ◌<◌, ◌≤◌, Bool, if◌then◌else◌, List, [], ◌∷◌, ◌++◌, length, Option, Some, None, Ok, Err, Result, fold, refl, sym, ap, ap₂, ◌∙◌, subst, ⊎_elim, append_assoc, arith}
 use Rattle.std.specs.Prelude.{IsSome}
 use Rattle.std.proofs.lemmas.Bool.{lt-ltb, le-ltb}
@@ -89,7 +89,7 @@ module _ (set : Settings) (changes : List Change) (b : BoardState) (has : HasAcc
     named = All-push IsNamed changes change has.named named;
   }
 
-  -- a change that is not accepted for some cause but want of memory
+  -- a change that is not accepted for some cause other than memory
   pub change_refused : (line : List ℕ) (change : Change) (why_not : Refused) → length line ≤ line_limit → line_says set.chunk line ≡ Ok (request.Change change) → (why_not ≡ refused.Memory → ⊥)
       → (why_not ≡ refused.Memory) ⊎ (refusal_of b.settings b.state change ≡ Some why_not) → IsRefused set changes (said set.chunk line)
   change_refused line change why_not short says other told =

@@ -1,7 +1,6 @@
 mod Conditions
 mod Accepting
 mod Running
-mod Jobs
 mod Holding
 mod Showing
 mod Ended

@@ -15,7 +15,7 @@ use Rattle.cq_base.specs.declared.settings.Settings.{Settings}
 use Rattle.cq_clones.proofs.InOrder.{AreAllInOrder-same}
 use Rattle.cq_clones.proofs.Order.{AreGroups-same, ComesBefore-apart}
 use Rattle.cq_clones.specs.Groups.{ComesBefore}
-use Rattle.cq_export.proofs.Lexings.{one_lexing, same_tokens, same_state}
+use Rattle.cq_export.proofs.Lexings.{same_tokens, same_state}
 use Rattle.cq_func.specs.Functions.{functions}
 use Rattle.cq_history.specs.Files.{Source, conditions_at}
 use Rattle.cq_normal.specs.Kept.{spans_of}
@@ -24,7 +24,7 @@ use Rattle.cq_request.specs.declared.request.Query.{Query}
 use Rattle.cq_scope.specs.Chosen.{is_chosen_at}
 use Rattle.cq_work.specs.Counts.{counts_of}
 use Rattle.cq_work.specs.Lexing.{LexesTo, tokens_in, kept_in, state_of}
-use Rattle.cq_work.specs.Shown.{same_kept}
+use Rattle.cq_work.specs.Shown.{one_lexing, same_kept}
 
 -- of two readings of one file
 record Same (r s : Reading) : Type 0 where

@@ -1,4 +1,4 @@
--- A session with workers beside it behind lines that are accepted changes, and what is asked of the version that they make.
+-- A session with workers beside it after lines that are accepted changes, and what is asked of the version that they make.
 use Rattle.std.proofs.Common.{◌≡◌, ◌≢◌, ◌⊎◌, ℕ, ◌+◌, max, true, false, List, [], ◌∷◌, ◌++◌, length, map, None, refl, sym, ap, ap₂, ◌∙◌, subst, inl, inr, ⊎_elim, append_assoc, length-append, arith}
 use Rattle.std.specs.List.{AllByRecursion}
 use Rattle.std.proofs.lemmas.List.{append-nil, map-append}
@@ -21,7 +21,7 @@ use Rattle.cq_tokask.specs.Asked.{AnswersSaid, AnswersLine, AnswersLines}
 use Rattle.cq_tokask.specs.Exported.{IsOfChanges, AnswersAsItsChanges}
 use Rattle.cq_tokfile.specs.declared.snapshot.Snapshot.{Snapshot}
 
--- a reply that does not tell want of memory
+-- a reply that does not report out of memory
 not_memory : (set : Settings) (k : Known) (l : Said) (r : Reply) → r ≢ reply.Memory → (WasRead l × (r ≡ reply.Memory)) ⊎ IsReplyBeside set k l r → IsReplyBeside set k l r
 not_memory set k l r told (inl memory) = absurd (told memory.1)
 not_memory set k l r told (inr is) = is
@@ -40,7 +40,7 @@ number_told set k c r none is =
     there)
     is
 
--- what is left of a session behind lines that are accepted changes
+-- what is left of a session after lines that are accepted changes
 record Behind (set : Settings) (changes : List Change) (numbers : List Reply) (lines : List Said) (replies : List Reply) : Type 0 where
   known : Known
   changes_are : known.changes ≡ changes

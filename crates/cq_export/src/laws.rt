@@ -4,8 +4,8 @@ ghost use Rattle.cq_export.specs.Laws as law;
 use cq_tokask::a_kept_version_answers_as_its_changes;
 use std::sync::ledger::Ledger;
 
-/// What is asked of the token file of the version that some lines make has the replies that a session alone gives after
-/// these lines, if no reply reports out of memory.
+/// What is asked of the token file of the version that some lines make has the replies that the only session of a server
+/// gives after these lines, if no reply reports out of memory.
 pub fn a_written_version_answers_as_a_session<L: Ledger>()
     ensures { law.AsksAsASession L }
 {

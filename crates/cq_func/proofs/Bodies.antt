@@ -14,10 +14,12 @@ use Rattle.cq_base.specs.declared.token.Spelled.{Spelled}
 use Rattle.cq_func.specs.declared.brackets.Kind.{Kind}
 use Rattle.cq_func.specs.declared.brackets.Kind.TheVariants as kind
 use Rattle.cq_func.specs.declared.found.Found.{Found}
+use Rattle.cq_func.specs.declared.ts.Types.{Types}
+use Rattle.cq_func.specs.declared.ts.Types.TheVariants as types
 use Rattle.cq_func.specs.Places.{place_above}
-use Rattle.cq_func.specs.Brackets.{spelling_of, is_spelled, holds, stands, opens, closes, are_even, from_to, partner}
+use Rattle.cq_func.specs.Brackets.{spelling_of, is_spelled, holds, stands, stands_before, opens, closes, are_even, from_to, partner}
 use Rattle.cq_func.specs.Levels.{level}
-use Rattle.cq_func.specs.Names.{is_name, is_called, with_body, is_no_method, ends_throws, behind_throws, java_open, java_function, c_function, go_is_named, go_parameters, go_end, go_open, is_type, go_body, go_function, function_at}
+use Rattle.cq_func.specs.Names.{is_name, is_called, with_body, is_no_method, ends_throws, behind_throws, java_open, java_function, c_function, is_used, js_declared, is_given, past, is_expression, expressed, arrow_open, js_value, js_function, type_end, ends_type, typed_parameters, behind_result, is_own, ts_declared, value_place, is_type_name, ts_value, ts_function, go_is_named, go_parameters, go_end, go_open, is_type, go_body, go_function, function_at}
 use Rattle.cq_func.specs.Functions.{found}
 use Rattle.cq_func.specs.Walks.{AreBodies}
 use Rattle.cq_func.proofs.Least.{place_above-within, place_above-passes, place_above-least, place_below-passes}
@@ -91,7 +93,7 @@ other_level l ts brace close at pair low high e =
     (place_above-least (λ j. are_even l kind.Curly (from_to ts brace j)) brace (length ts) at low (omega (arith, is, high)))
     (sym (level-tells l kind.Curly ts brace (at + 1) (omega arith) (omega arith)) ∙ eq-eqb _ _ e)
 
--- behind the brace and up to its partner the level is above that before it
+-- after the brace and up to its partner the level is above that before it
 higher : (l : Lang) (ts : List Spelled) (d : Spelled) (brace close more : ℕ) → IsPair l ts brace close → brace + 1 + more ≤ close → level l kind.Curly ts brace < level l kind.Curly ts (brace + 1 + more)
 higher l ts d brace close zero pair le =
     let up = (braced l ts brace pair.opens).1 in
@@ -139,6 +141,15 @@ pub record IsFound (l : Lang) (ts : List Spelled) (f : Found) : Type 0 where
 cond_some : {X : Type 0} (b : Bool) (x : Option X) (y : X) → cond b x None ≡ Some y → (b ≡ true) × (x ≡ Some y)
 cond_some true x y is = (refl, is)
 cond_some false x y is = absurd (cc)
+
+none_or : {X : Type 0} (b : Bool) (x : Option X) (y : X) → cond b None x ≡ Some y → x ≡ Some y
+none_or true x y is = absurd (cc)
+none_or false x y is = is
+
+either_found : {X P : Type 0} (b d : Bool) (x y : Option X) (f : X) → (b ≡ true → x ≡ Some f → P) → (d ≡ true → y ≡ Some f → P) → cond b x (cond d y None) ≡ Some f → P
+either_found true d x y f first second is = first refl is
+either_found false true x y f first second is = second refl is
+either_found false false x y f first second is = absurd (cc)
 
 some_is : {X : Type 0} (x y : X) → Some x ≡ Some y → x ≡ y
 some_is x y is = cc
@@ -234,11 +245,122 @@ go-found ts name f inside is =
     let over : first < close = partner_above lang.Go kind.Round ts first (stands_inside lang.Go ts first (codes "(") opened) in
     go_body-found ts name close f inside (omega arith) c.1
 
+-- ---- JavaScript
+
+cond_from : (b : Bool) (low x y : ℕ) → (b ≡ true → low ≤ x) → low ≤ y → low ≤ cond b x y
+cond_from true low x y over other = over refl
+cond_from false low x y over other = other
+
+past-from : (l : Lang) (word : List ℕ) (ts : List Spelled) (at : ℕ) → at ≤ past l word ts at
+past-from l word ts at = cond_from (stands l ts at word) at (at + 1) at (λ _. omega arith) (omega arith)
+
+expressed-from : (l : Lang) (ts : List Spelled) (at : ℕ) → at ≤ expressed l ts at
+expressed-from l ts at =
+    let over = past-from l (codes "*") ts (at + 1) in
+    cond_from (is_expression l ts at) at (past l (codes "*") ts (at + 1)) at (λ _. omega (arith, over)) (omega arith)
+
+arrow_open-above : (l : Lang) (ts : List Spelled) (name at behind : ℕ) → name < length ts → name < behind → name < arrow_open l ts at behind
+arrow_open-above l ts name at behind inside over =
+    cond_above (is_expression l ts at) name behind (cond (stands l ts behind (codes "=>")) (behind + 1) (length ts)) (λ _. over)
+    (cond_above (stands l ts behind (codes "=>")) name (behind + 1) (length ts) (λ _. omega arith) inside)
+
+js_declared-found : (ts : List Spelled) (name : ℕ) (f : Found) → name < length ts → is_called lang.Js ts name ≡ true → js_declared ts name ≡ Some f → IsFound lang.Js ts f
+js_declared-found ts name f inside called is =
+    let close = partner lang.Js kind.Round ts (name + 1) in
+    let over : name + 1 < close = called_above lang.Js ts name called in
+    with_body-found lang.Js ts name (close + 1) f inside (omega arith) (none_or (is_used lang.Js ts name) (with_body lang.Js ts name (close + 1)) f is)
+
+js_value-found : (ts : List Spelled) (name : ℕ) (f : Found) → name < length ts → js_value ts name ≡ Some f → IsFound lang.Js ts f
+js_value-found ts name f inside is =
+    let at = past lang.Js (codes "async") ts (name + 2) in
+    let first = expressed lang.Js ts at in
+    let close = partner lang.Js kind.Round ts first in
+    let c = cond_some (stands lang.Js ts first (codes "(")) (with_body lang.Js ts name (arrow_open lang.Js ts at (close + 1))) f is in
+    let low : name + 2 ≤ at = past-from lang.Js (codes "async") ts (name + 2) in
+    let next : at ≤ first = expressed-from lang.Js ts at in
+    let over : first < close = partner_above lang.Js kind.Round ts first (stands_inside lang.Js ts first (codes "(") c.0) in
+    with_body-found lang.Js ts name (arrow_open lang.Js ts at (close + 1)) f inside (arrow_open-above lang.Js ts name at (close + 1) inside (omega (arith, low, next, over))) c.1
+
+js-found : (ts : List Spelled) (name : ℕ) (f : Found) → name < length ts → js_function ts name ≡ Some f → IsFound lang.Js ts f
+js-found ts name f inside is =
+    either_found (is_called lang.Js ts name) (is_given lang.Js ts name) (js_declared ts name) (js_value ts name) f
+    (js_declared-found ts name f inside) (λ _. js_value-found ts name f inside) is
+
+-- ---- TypeScript
+
+type_end-above : (which : Types) (ts : List Spelled) (at : ℕ) → at < length ts → at < type_end which ts at
+type_end-above which ts at inside = (place_above-within (ends_type which ts) at (length ts) inside).0
+
+typed_parameters-from : (ts : List Spelled) (at : ℕ) → at ≤ typed_parameters ts at
+typed_parameters-from ts at =
+    let end = type_end types.Parameters ts at in
+    cond_from (stands lang.Ts ts at (codes "<")) at (cond (stands_before lang.Ts ts end (codes ">")) end (length ts)) at
+    (λ is.
+    let inside = stands_inside lang.Ts ts at (codes "<") is in
+    let over = type_end-above types.Parameters ts at inside in
+    cond_from (stands_before lang.Ts ts end (codes ">")) at end (length ts) (λ _. omega (arith, over)) (omega (arith, inside)))
+    (omega arith)
+
+behind_result-above : (ts : List Spelled) (name at : ℕ) → name < length ts → name < at → name < behind_result ts at
+behind_result-above ts name at inside over =
+    let end = type_end types.Result ts at in
+    cond_above (stands lang.Ts ts at (codes ":")) name (cond (ltb (at + 1) end) end (length ts)) at
+    (λ _. cond_above (ltb (at + 1) end) name end (length ts) (λ is. let less = ltb-true (at + 1) end is in omega (arith, less, over)) inside)
+    over
+
+value_place-above : (ts : List Spelled) (name : ℕ) → name < value_place ts name
+value_place-above ts name =
+    let end = type_end types.Value ts (name + 1) in
+    cond_above (stands lang.Ts ts (name + 1) (codes ":")) name (cond (stands lang.Ts ts end (codes "=")) (end + 1) (name + 2)) (name + 2)
+    (λ is.
+    let over = type_end-above types.Value ts (name + 1) (stands_inside lang.Ts ts (name + 1) (codes ":") is) in
+    cond_above (stands lang.Ts ts end (codes "=")) name (end + 1) (name + 2) (λ _. omega (arith, over)) (omega arith))
+    (omega arith)
+
+ts_declared-found : (ts : List Spelled) (name : ℕ) (f : Found) → name < length ts → ts_declared ts name ≡ Some f → IsFound lang.Ts ts f
+ts_declared-found ts name f inside is =
+    let first = typed_parameters ts (name + 1) in
+    let close = partner lang.Ts kind.Round ts first in
+    let brace = behind_result ts (close + 1) in
+    let own = cond_some (is_own ts name) (cond (stands lang.Ts ts first (codes "(")) (with_body lang.Ts ts name brace) None) f is in
+    let c = cond_some (stands lang.Ts ts first (codes "(")) (with_body lang.Ts ts name brace) f own.1 in
+    let low : name + 1 ≤ first = typed_parameters-from ts (name + 1) in
+    let over : first < close = partner_above lang.Ts kind.Round ts first (stands_inside lang.Ts ts first (codes "(") c.0) in
+    with_body-found lang.Ts ts name brace f inside (behind_result-above ts name (close + 1) inside (omega (arith, low, over))) c.1
+
+ts_value-found : (ts : List Spelled) (name : ℕ) (f : Found) → name < length ts → ts_value ts name ≡ Some f → IsFound lang.Ts ts f
+ts_value-found ts name f inside is =
+    let begin = value_place ts name in
+    let at = past lang.Ts (codes "async") ts begin in
+    let value = expressed lang.Ts ts at in
+    let first = typed_parameters ts value in
+    let close = partner lang.Ts kind.Round ts first in
+    let behind = behind_result ts (close + 1) in
+    let brace = arrow_open lang.Ts ts at behind in
+    let valued = none_or (is_type_name ts name) (cond (stands lang.Ts ts first (codes "(")) (with_body lang.Ts ts name brace) None) f is in
+    let c = cond_some (stands lang.Ts ts first (codes "(")) (with_body lang.Ts ts name brace) f valued in
+    let start : name < begin = value_place-above ts name in
+    let low : begin ≤ at = past-from lang.Ts (codes "async") ts begin in
+    let next : at ≤ value = expressed-from lang.Ts ts at in
+    let more : value ≤ first = typed_parameters-from ts value in
+    let over : first < close = partner_above lang.Ts kind.Round ts first (stands_inside lang.Ts ts first (codes "(") c.0) in
+    with_body-found lang.Ts ts name brace f inside
+    (arrow_open-above lang.Ts ts name at behind inside (behind_result-above ts name (close + 1) inside (omega (arith, start, low, next, more, over)))) c.1
+
+cond_either : {X P : Type 0} (b : Bool) (x y : Option X) (f : X) → (x ≡ Some f → P) → (y ≡ Some f → P) → cond b x y ≡ Some f → P
+cond_either true x y f first second is = first is
+cond_either false x y f first second is = second is
+
+ts-found : (ts : List Spelled) (name : ℕ) (f : Found) → name < length ts → ts_function ts name ≡ Some f → IsFound lang.Ts ts f
+ts-found ts name f inside is = cond_either (is_given lang.Ts ts name) (ts_value ts name) (ts_declared ts name) f (ts_value-found ts name f inside) (ts_declared-found ts name f inside) is
+
 at-found : (l : Lang) (ts : List Spelled) (name : ℕ) (f : Found) → name < length ts → function_at l ts name ≡ Some f → IsFound l ts f
 at-found lang.Any ts name f inside is = absurd (cc)
 at-found lang.Go ts name f inside is = go-found ts name f inside is
 at-found lang.C ts name f inside is = c-found ts name f inside is
 at-found lang.Java ts name f inside is = java-found ts name f inside is
+at-found lang.Js ts name f inside is = js-found ts name f inside is
+at-found lang.Ts ts name f inside is = ts-found ts name f inside is
 
 -- ---- the list of them
 

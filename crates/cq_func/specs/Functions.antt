@@ -27,7 +27,7 @@ abbrev pub text_before : List Spelled → ℕ → List ℕ
 text_before ts at = (slice_index_or (no_token ∷ ts) at no_token).text
 
 abbrev pub decides : Lang → List Spelled → ℕ → Bool
-decides l ts at = is_decision l (text_before ts at) (token_at ts at).text
+decides l ts at = is_decision l (text_before ts at) (token_at ts at)
 
 -- The body has the token at this place: it reaches from after its `{` to its `}`. Neither of these decides.
 abbrev pub has : Found → ℕ → Bool

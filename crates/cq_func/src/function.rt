@@ -5,7 +5,9 @@ use crate::c::c_functions;
 use crate::found::Found;
 use crate::go::go_functions;
 use crate::java::java_functions;
+use crate::js::js_functions;
 use crate::own::own_decisions;
+use crate::ts::ts_functions;
 use cq_base::{Lang, Memory, Spelled, Text};
 use std::alloc::Global;
 
@@ -28,6 +30,8 @@ fn found(alloc: Global, lang: Lang, tokens: &[Spelled]) -> Result<Vec<Found>, Me
         Lang::Go => go_functions(alloc, tokens),
         Lang::C => c_functions(alloc, tokens),
         Lang::Java => java_functions(alloc, tokens),
+        Lang::Js => js_functions(alloc, tokens),
+        Lang::Ts => ts_functions(alloc, tokens),
     }
 }
 

@@ -10,8 +10,10 @@ mod found;
 mod function;
 mod go;
 mod java;
+mod js;
 mod own;
 mod places;
 mod spelling;
+mod ts;
 
 pub use function::{Function, functions};

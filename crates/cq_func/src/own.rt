@@ -22,7 +22,7 @@ fn decides(lang: Lang, tokens: &[Spelled], at: usize) -> bool
     requires { at < length tokens.now }
     ensures { result ≡ spec.decides lang tokens.now at }
 {
-    is_decision(lang, text_before(tokens, at), tokens[at].text.as_bytes())
+    is_decision(lang, text_before(tokens, at), &tokens[at])
 }
 
 // For each place at which a body begins, where it ends.

@@ -14,7 +14,7 @@ fn punctuation(lang: Lang, text: &[u8]) -> &[u8]
             Some(meant) => meant.as_bytes(),
             None => text,
         },
-        Lang::Any | Lang::Go | Lang::Java => text,
+        Lang::Any | Lang::Go | Lang::Java | Lang::Js | Lang::Ts => text,
     }
 }
 

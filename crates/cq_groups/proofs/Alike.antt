@@ -1,4 +1,4 @@
--- The spots of one word have its tokens behind them.
+-- The spots of one word have its tokens after them.
 use Rattle.std.proofs.Common.{ℕ, ◌<◌, List, length, sym, ◌∙◌, arith}
 use Rattle.cq_clones.specs.Groups.{file_at}
 use Rattle.cq_clones.proofs.Words.{tokens_from_words}

@@ -186,7 +186,7 @@ mark_new seen t token mark is token_is =
 pub some_of_mark : {T : Type 0} (seen : List T) (token : Option T) (mark : ℕ) → IsMark seen token mark → 0 < mark → IsSome token
 some_of_mark seen token mark is some = (same_from_marks seen token token mark mark is is refl some).0
 
--- the map behind one search, which took the token in where it was new
+-- the map after one search, which took the token in where it was new
 module _ (ties : EqualTokensTie) (marks new : BTreeMap Seen ℕ) (s : Seen) (mark : ℕ) (value : Option ℕ) (was : value ≡ get seen_cmp marks s) (mark_is : mark ≡ unwrap_or value (btree_map_len marks + 1)) (updates : Updates seen_cmp marks new s (Some mark)) (size : btree_map_len new ≡ btree_map_len marks + cond (is_some value) 0 1)
     (token : Option Norm) (is : token ≡ Some (norm_in s)) (seen : List Norm) (are : AreMarks marks seen) where
   marked_new : value ≡ None → IsMarked seen new token mark

@@ -1,4 +1,4 @@
--- Rows and their spots, and the tokens behind the spots of a row.
+-- Rows and their spots, and the tokens after the spots of a row.
 use Rattle.std.proofs.Common.{◌≡◌, ◌↔◌, ℕ, zero, suc, ◌+◌, ◌-◌, ◌*◌, ◌^◌, ◌<◌, ◌≤◌, List, [], ◌∷◌, ◌++◌, length, get_or, take, slice_get, Some, refl, sym, ap, ap₂, ◌∙◌, subst, ⊎_elim, arith, append_assoc, append-nil, length-append}
 use Rattle.std.specs.Prelude.{All, Contains}
 use Rattle.std.proofs.Math.Nat.{one-mul, add-mul, mul-add, mul-one, mul-le-mul_right}
@@ -74,7 +74,7 @@ alone_spots r e = ap (λ (n : ℕ). r.first ∷ behind n r.first.place r.gap r.l
 pub pair_spots_of : (a b : Row) → a.others ≡ 0 → b.others ≡ 0 → all_of (a ∷ b ∷ []) ≡ a.first ∷ b.first ∷ []
 pair_spots_of a b p q = ap₂ (λ (m n : ℕ). (a.first ∷ behind m a.first.place a.gap a.left) ++ ((b.first ∷ behind n b.first.place b.gap b.left) ++ [])) p q
 
--- ---- the spots behind the first one of a row
+-- ---- the spots after the first one of a row
 
 some_behind : (n : ℕ) (p : Place) (g l : ℕ) (s : Spot) → Contains (behind n p g l) s → 0 < n
 some_behind zero p g l s c = absurd (Contains-nil s c)
@@ -96,7 +96,7 @@ behind_size : (n : ℕ) (p : Place) (g l : ℕ) → length (behind n p g l) ≡ 
 behind_size zero p g l = refl
 behind_size (suc n) p g l = let h = behind_size n (further p g) g l in omega (arith, h)
 
--- the spot is so many tokens behind the other one, in its file
+-- the spot is so many tokens after the other one, in its file
 pub record IsBehind (gap : ℕ) (s t : Spot) : Type 0 where
   pub file : t.place.file ≡ s.place.file
   pub at : t.place.at ≡ s.place.at + gap
@@ -149,9 +149,9 @@ behind_push (suc n) p g l =
     ap (λ (ss : List Spot). spot_at q l ∷ ss) (behind_push n q g l)
     ∙ ap (λ (k : ℕ). spot_at q l ∷ (behind n q g l ++ spot_at (record { file = p.file; at = k }) l ∷ [])) (one_more n g p.at)
 
--- ---- rows of several, behind which the next one begins
+-- ---- rows of several, after which the next one begins
 
--- each spot of such a row has one behind it by the gap
+-- each spot of such a row has one after it by the gap
 followed_in : (depth : ℕ) (rows : List Row) (k : ℕ) (d : Row) (s : Spot) → k < length rows → IsFollowed depth rows k d → Contains (row_spots (get_or rows k d)) s → (t : Spot) × Contains (all_of rows) t × IsBehind (get_or rows k d).gap s t
 followed_in depth rows k d s lt is c =
     let r : Row = get_or rows k d in
@@ -171,7 +171,7 @@ followed_in depth rows k d s lt is c =
     ))
     (Contains-push_cases (behind r.others p r.gap r.left) past t (subst (λ (ss : List Spot). Contains ss t) (behind_push r.others p r.gap r.left) t_in))
 
--- the token behind a word is one of the word at the next spot, if the word reaches over the gap
+-- the token after a word is one of the word at the next spot, if the word reaches over the gap
 token_by_gap : {T : Type 0} (corpus : List (List T)) (n gap : ℕ) (s t : Spot) → IsBehind gap s t → gap ≤ n → token_behind corpus s.place n ≡ token_behind corpus t.place (n - gap)
 token_by_gap corpus n gap s t is low =
     let at : s.place.at + n ≡ t.place.at + (n - gap) = omega (arith, is.at, low) in
@@ -253,7 +253,7 @@ followed_more depth old more k d below is =
       at = ap (λ (z : Row). z.first.place.at + (z.others + 1) * z.gap) a ∙ is.at ∙ sym (ap (λ (z : Row). z.first.place.at) b);
     }
 
--- a row of one spot comes behind others
+-- a row of one spot comes after others
 alone_pushed : (depth : ℕ) (old : List Row) (r : Row) → r.others ≡ 0 → AreRows depth old → AreRows depth (old ++ r ∷ [])
 alone_pushed depth old r one are k d within some =
     let size = length_push old r in
@@ -272,7 +272,7 @@ alone_added r old new one is = (
   λ depth row are. subst (AreRows depth) (sym is) (alone_pushed depth old r one are),
 )
 
--- a row and the one that begins behind it
+-- a row and the one that begins after it
 two_pushed : (depth : ℕ) (old : List Row) (front last : Row) → IsSteps depth front → last.others ≡ 0 → front.first.place.file ≡ last.first.place.file → front.first.place.at + (front.others + 1) * front.gap ≡ last.first.place.at → AreRows depth old → AreRows depth ((old ++ front ∷ []) ++ last ∷ [])
 two_pushed depth old front last steps one file at are k d within some =
     let mid = old ++ front ∷ [] in

@@ -120,7 +120,7 @@ differ_before corpus all spots s t are s_all t_all s_in t_in differ (n, positive
     let v = All-contains (λ (z : Spot). z.left ≡ n) spots t one t_in in
     differ (same_from_marks are.seen _ _ s.left t.left (are.marks s s_all) (are.marks t t_all) (u ∙ sym v) (omega (arith, u, positive)))
 
--- it has none, where the tokens before its places are all there and equal, or those behind
+-- it has none, where the tokens before its places are all there and equal, or those after
 pub none_by_left : {T : Type 0} (corpus : List (List T)) (least d n : ℕ) (places : List Place) (all spots : List Spot) (g : Group) → AreEntries corpus least places → map (λ s. s.place) all ≡ places → AreSpots corpus all → (set : IsWordSet corpus all d spots) → 1 ≤ least → least ≤ d → 0 < n → All (λ s. s.left ≡ n) spots → IsGroupAt corpus least d spots g → ⊥
 none_by_left corpus least d n places all spots g entries are spots_are set some long positive one at =
     let e = word_of_set corpus least d all spots g set at in

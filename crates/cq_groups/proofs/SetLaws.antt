@@ -49,7 +49,7 @@ other_number f n (x ∷ xs) nay =
     (λ not_here. (x, Contains-here x xs, not_here))
     (cases_eq (f x) n)
 
--- where neither the tokens before nor those behind are all there and equal, some two places show it together
+-- where neither the tokens before nor those after are all there and equal, some two places show it together
 pub two_places : {T : Type 0} (corpus : List (List T)) (d : ℕ) (xs : List Marked) (o x : Marked) (lefts : List T) (apart : AllPairs (λ a b. a ≢ b) lefts)
     → ((z : Marked) → Contains xs z → IsMark lefts (token_before corpus z.spot.place) z.spot.left)
     → AreMarked corpus d xs → Contains xs o → Contains xs x → o.spot.place ≢ x.spot.place

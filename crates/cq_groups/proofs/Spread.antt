@@ -81,7 +81,7 @@ spread_low most xs low k d within =
     let (x, x_in, y_in) = from_spread xs y (Contains-get_or (spread xs) k d within) in
     subst (λ (n : ℕ). n ≤ most) (sym (all_mark x.mark (row_spots x.row) y y_in).0) (All-contains (λ (z : MarkedRow). z.mark ≤ most) xs x low x_in)
 
--- the mark of a row is that of the token behind each of its spots
+-- the mark of a row is that of the token after each of its spots
 pub spread_marked : {T : Type 0} (corpus : List (List T)) (n : ℕ) (rows : List Row) (xs : List MarkedRow) → AreAlike corpus n (all_of rows) → AreRows n rows → map (λ x. x.row) xs ≡ rows → AreRowsMarked corpus n xs → AreMarked corpus n (spread xs)
 spread_marked {T} corpus n rows xs alike are rows_are marked = record {
   seen = marked.seen;

@@ -5,7 +5,7 @@ use Rattle.std.proofs.lemmas.Option.{slice_get-get_or, get_or_from_slice_get, sl
 use Rattle.cq_base.specs.declared.group.Place.{Place}
 use Rattle.cq_clones.specs.Groups.{file_at, word_at, StandsAt, token_behind}
 
--- the word goes on by the token behind it
+-- the word goes on by the token after it
 pub stands_more : {T : Type 0} (corpus : List (List T)) (w : List T) (t : T) (p : Place) → StandsAt corpus w p → token_behind corpus p (length w) ≡ Some t → StandsAt corpus (w ++ t ∷ []) p
 stands_more corpus w t p stands next =
     let xs = file_at corpus p.file in

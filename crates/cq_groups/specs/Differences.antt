@@ -11,11 +11,11 @@ use Rattle.cq_groups.specs.Sets.{AreOne, IsDifference}
 abbrev pub IsTokenBefore : {T : Type 0} → List (List T) → List Place → ℕ → Option T → Type 0
 IsTokenBefore corpus places i token = (p : Place) → token ≡ token_before corpus (slice_index_or places i p)
 
--- the token `n` behind the first spot of the row at a position, if there is one
+-- the token `n` after the first spot of the row at a position, if there is one
 abbrev pub IsTokenBehind : {T : Type 0} → List (List T) → ℕ → List Row → ℕ → Option T → Type 0
 IsTokenBehind corpus n rows i token = (r : Row) → token ≡ token_behind corpus (slice_index_or rows i r).first.place n
 
--- the first spots of the rows go on by one token, `n` behind each
+-- the first spots of the rows go on by one token, `n` after each
 abbrev pub RowsGoOnByOne : {T : Type 0} → List (List T) → ℕ → List Row → Type 0
 RowsGoOnByOne corpus n rows = AreOne (λ r. token_behind corpus r.first.place n) rows
 

@@ -29,7 +29,7 @@ pub record IsRowOf (depth : ℕ) (spots : List Spot) (r : Row) : Type 0 where
 abbrev pub AddsRow : Row → List Row → List Row → Type 0
 AddsRow r old new = (all_of new ≡ all_of old ++ row_spots r) × ((depth : ℕ) → IsRow depth r → AreRows depth old → AreRows depth new)
 
--- a spot with the mark of the token behind its word
+-- a spot with the mark of the token after its word
 pub record Marked : Type 0 where
   pub spot : Spot
   pub mark : ℕ
@@ -57,12 +57,12 @@ pub record AreMarks (marks : BTreeMap Seen ℕ) (seen : List Norm) : Type 0 wher
   pub apart : AllPairs (λ a b. a ≢ b) seen
   pub each : AreMarksOf norm_in (get seen_cmp marks) seen
 
--- the new list is the old one with more elements behind it
+-- the new list is the old one with more elements after it
 pub record Grows {T : Type 0} (old new : List T) : Type 0 where
   pub more : List T
   pub is : new ≡ old ++ more
 
--- the mark is that of the token, which is among those seen before or is behind them now
+-- the mark is that of the token, which is among those seen before or is after them now
 pub record IsMarked (seen : List Norm) (marks : BTreeMap Seen ℕ) (token : Option Norm) (mark : ℕ) : Type 0 where
   pub tokens : List Norm
   pub grows : Grows seen tokens
@@ -95,13 +95,13 @@ IsLongest {T} corpus longest = (p q : Place) (n : ℕ) → p ≢ q → p.at + n 
 abbrev pub ReadsAtMost : {T : Type 0} → List (List T) → ℕ → ℕ → ℕ → Type 0
 ReadsAtMost corpus places old new = (longest : ℕ) → IsLongest corpus longest → new ≤ old + places * (longest + 2)
 
--- the marks are those of the tokens `n` behind the spots
+-- the marks are those of the tokens `n` after the spots
 pub record AreMarked {T : Type 0} (corpus : List (List T)) (n : ℕ) (marked : List Marked) : Type 0 where
   pub seen : List T
   pub apart : AllPairs (λ a b. a ≢ b) seen
   pub marks : (x : Marked) → Contains marked x → IsMark seen (token_behind corpus x.spot.place n) x.mark
 
--- the marks are those of the tokens `n` behind the first spots of the rows
+-- the marks are those of the tokens `n` after the first spots of the rows
 pub record AreRowsMarked {T : Type 0} (corpus : List (List T)) (n : ℕ) (marked : List MarkedRow) : Type 0 where
   pub seen : List T
   pub apart : AllPairs (λ a b. a ≢ b) seen
@@ -119,15 +119,15 @@ pub record IsDifference {X : Type 0} (token : X → Option Norm) (xs : List X) (
   pub end : (x : X) → token (slice_index_or xs (d.read - 1) x) ≡ option_map norm_in d.last
   pub differ : ¬ AreSame (option_map norm_in d.first) (option_map norm_in d.last)
 
--- the tokens that were read `n` behind places are no further from their file's first than a number of 32 bits says
+-- the tokens that were read `n` after places are no further from their file's first than a number of 32 bits says
 abbrev pub IsInNumbers : ℕ → Difference → Type 0
 IsInNumbers n d = (IsSome (option_map norm_in d.first) → n + 1 < 2 ^ 32) × (IsSome (option_map norm_in d.last) → n + 1 < 2 ^ 32)
 
--- whether a spot of the row, so many behind its first one, is free of a word at the last kept place
+-- whether a spot of the row, so many after its first one, is free of a word at the last kept place
 abbrev pub IsFreeAt : ℕ → Option Place → Row → ℕ → Bool → Type 0
 IsFreeAt tokens last r k free = is_free tokens last (further r.first.place (k * r.gap)) ≡ free
 
--- the kept places of the row come behind those before it, whatever places follow
+-- the kept places of the row come after those before it, whatever places follow
 abbrev pub KeepsRow : ℕ → Row → Option Place → Option Place → List Place → List Place → Type 0
 KeepsRow tokens r last latest old new = (rest : List Place) → new ++ kept_after tokens latest rest ≡ old ++ kept_after tokens last (map (λ s. s.place) (row_spots r) ++ rest)
 
@@ -207,7 +207,7 @@ pub record AddsParts (depth : ℕ) (marked : List Marked) (highest : ℕ) (old n
   pub are : AreParts depth marked highest parts
   pub size : sum_by (λ s. length (set_spots s)) parts ≤ length (filter (λ x. nat_le x.mark highest) marked)
 
--- the parts of a set, of which those that may give groups stand behind other sets
+-- the parts of a set, of which those that may give groups come after other sets
 pub record IsParted {T : Type 0} (corpus : List (List T)) (set : Set) (rest sets : List Set) : Type 0 where
   pub marked : List Marked
   pub spots : map (λ x. x.spot) marked ≡ set_spots set
@@ -220,7 +220,7 @@ pub record IsParted {T : Type 0} (corpus : List (List T)) (set : Set) (rest sets
 abbrev pub group_of : ℕ → List Spot → Group
 group_of depth spots = record { tokens = depth; places = kept_of depth (map (λ s. s.place) spots) }
 
--- the tokens behind the spots are there and equal
+-- the tokens after the spots are there and equal
 abbrev pub HaveOneMark : List Marked → Type 0
 HaveOneMark marked = (n : ℕ) × (0 < n) × All (λ x. x.mark ≡ n) marked
 

@@ -1,4 +1,4 @@
--- What one step makes of a set: its group, and its parts behind other sets.
+-- What one step makes of a set: its group, and its parts after other sets.
 use Rattle.std.specs.Prelude.{ℕ, List, Option, Vec, map, All}
 use Rattle.std.specs.declared.alloc.Global.{Global}
 use Rattle.std.specs.BTreeMap.{BTreeMap}
@@ -27,7 +27,7 @@ lists_in parts = map (λ part. part.items) parts
 abbrev pub ArePartRows : ℕ → List (Vec Row Global) → Type 0
 ArePartRows depth parts = All (λ part. All (IsRow depth) part.items) parts
 
--- those of the parts that may give groups stand behind the old sets
+-- those of the parts that may give groups come after the old sets
 abbrev pub AddsAll : ℕ → List (Vec Row Global) → List Set → List Set → Type 0
 AddsAll depth parts old new = (highest : ℕ) (marked : List MarkedRow) → AreByMark highest marked (lists_in parts) → AddsParts depth (spread marked) highest old new
 

@@ -9,7 +9,7 @@ use crate::spots::Row;
 use cq_base::{Place, Steps};
 use cq_tokens::{FileList, Files, Seen};
 
-/// What was read of the tokens on one side of some places, where they are not all there and the same.
+/// What was read of the tokens on one side of some places, if they are not all there and the same.
 #[derive(Clone, Copy)]
 pub(crate) struct Difference<'a> {
     /// The token of the first place, if there is one: that of each place that was read, but of the last.
@@ -30,7 +30,7 @@ pub(crate) fn are_same(a: Option<Seen<'_>>, b: Option<Seen<'_>>) -> bool
     }
 }
 
-/// The first difference among the tokens before some places; None where they are all there and the same.
+/// The first difference among the tokens before some places; None if they are all there and the same.
 pub(crate) fn difference_before<'a, F: Files>(
     files: &FileList<'a, F>,
     places: &[Place],
@@ -57,7 +57,7 @@ pub(crate) fn difference_before<'a, F: Files>(
     None
 }
 
-/// The first difference among the tokens `n` behind the first spots of rows; None where they are all there and the same.
+/// The first difference among the tokens `n` after the first spots of rows; None if they are all there and the same.
 pub(crate) fn difference_behind<'a, F: Files>(
     files: &FileList<'a, F>,
     rows: &[Row],
@@ -110,7 +110,7 @@ pub(crate) fn token_before_at<'a, F: Files>(
     files.token_before(places[i], steps)
 }
 
-/// The token `n` behind the first spot of the row at `i`. It is read unless it was.
+/// The token `n` after the first spot of the row at `i`. It is read unless it was.
 pub(crate) fn token_behind_at<'a, F: Files>(
     files: &FileList<'a, F>,
     rows: &[Row],

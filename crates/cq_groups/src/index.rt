@@ -26,7 +26,7 @@ impl<'a, F: Files> Index<'a, F> {
     }
 }
 
-/// The spots of files' changes, where nobody keeps them. It costs a sort of them.
+/// The spots of files' changes, if nobody keeps them. It costs a sort of them.
 pub fn spots_in<F: Files>(alloc: Global, files: &F) -> Result<Spots, Memory>
     requires { AllPairs (λ a b. a ≢ b) (F.changes files.now) }
     ensures { IfOk result (λ spots. AreSpots (F.changes files.now) spots) }

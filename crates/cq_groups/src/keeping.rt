@@ -14,7 +14,7 @@ fn is_free_behind(tokens: u32, last: Place, p: Place) -> bool
     last.file != p.file || u64::from(last.at) + u64::from(tokens) <= u64::from(p.at)
 }
 
-/// The place of a row's spot, so many behind its first one.
+/// The place of a row's spot, so many after its first one.
 fn place_in(row: &Row, k: usize) -> Place
     requires within { k ≤ row.now.others }
     requires inside { 0 < row.now.others → row.now.first.place.at + row.now.others * row.now.gap < 2 ^ 32 }

@@ -14,7 +14,7 @@ use cq_tokens::{FileList, Files, Seen, equal_tokens_tie};
 use std::alloc::Global;
 use std::collections::BTreeMap;
 
-/// The mark of a token, which is a new one where the token is new. It costs one search among the different tokens.
+/// The mark of a token, which is a new one if the token is new. It costs one search among the different tokens.
 pub(crate) fn mark_of<'a>(
     marks: &mut BTreeMap<Seen<'a>, usize>,
     token: Option<Seen<'a>>,
@@ -129,7 +129,7 @@ pub(crate) fn spots_of<'a, F: Files>(
     spots_by_map(alloc, files, places, difference, steps)
 }
 
-/// The rows with the marks of the tokens `n` behind their spots, of which some were read.
+/// The rows with the marks of the tokens `n` after their spots, of which some were read.
 pub(crate) fn marked_of<'a, F: Files>(
     alloc: Global,
     files: &FileList<'a, F>,

@@ -77,7 +77,7 @@ fn part<'a, F: Files>(
     push_marked(alloc, files, &set, difference, sets, steps)
 }
 
-/// Takes a set one token further: all of it, where its places go on by one token, and else its parts.
+/// Takes a set one token further: all of it, if its places go on by one token, and else its parts.
 fn split<F: Files>(
     alloc: Global,
     files: &FileList<'_, F>,

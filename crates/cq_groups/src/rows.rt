@@ -37,7 +37,7 @@ pub(crate) fn is_pair(rows: &[Row]) -> bool
     rows.len() == 2 && rows.iter().all(|r| r.others == 0)
 }
 
-/// Where the last spot of a row of several stands in its file.
+/// Where the last spot of a row of several is in its file.
 fn last_at(row: &Row) -> u32
     requires { row.now.first.place.at + row.now.others * row.now.gap < 2 ^ 32 }
     ensures { result ≡ row.now.first.place.at + row.now.others * row.now.gap }
@@ -170,7 +170,7 @@ fn are_joined_at(depth: u32, rows: &[Row]) -> bool {
     rows.len() > 2 && depth.is_power_of_two()
 }
 
-/// The rows of a part of a set, so that each goes on by one token again. They stay as they are where each has one spot,
+/// The rows of a part of a set, so that each goes on by one token again. They stay as they are if each has one spot,
 /// unless they are joined at this depth.
 pub(crate) fn rows_of_part(alloc: Global, depth: u32, rows: Vec<Row>) -> Result<Vec<Row>, Memory>
     requires { All (IsRow depth) rows.items }
@@ -183,7 +183,7 @@ pub(crate) fn rows_of_part(alloc: Global, depth: u32, rows: Vec<Row>) -> Result<
     rows_at(alloc, depth, &rows)
 }
 
-/// The set one token further, where all its spots go on by one token. It stands as it is, unless its rows are joined there.
+/// The set one token further, if all its spots go on by one token. It stays as it is, unless its rows are joined there.
 pub(crate) fn further_on(alloc: Global, set: Set) -> Result<Set, Memory>
     requires { set.depth + 1 < 2 ^ 32 }
     ensures depth { IfOk result (λ more. more.depth ≡ set.depth + 1) }

@@ -31,7 +31,7 @@ fn have_one_left(rows: &[Row]) -> bool
     have_left(rows, rows[0].first.left)
 }
 
-/// Whether a row has spots behind its first one.
+/// Whether a row has spots after its first one.
 fn has_others(row: &Row) -> bool
     ensures { IsTrue result ↔ 0 < row.now.others }
 {

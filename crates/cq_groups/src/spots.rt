@@ -15,13 +15,13 @@ pub struct Row {
     pub first: Spot,
     /// How many others there are.
     pub others: u32,
-    /// How many tokens each of them stands behind the one before it.
+    /// How many tokens each of them is after the one before it.
     pub gap: u32,
     /// The mark of each of them.
     pub left: usize,
 }
 
-/// A row with the mark of the token behind the word, which is one at all its spots.
+/// A row with the mark of the token after the word, which is one at all its spots.
 #[derive(Clone, Copy, Debug)]
 pub struct MarkedRow {
     pub row: Row,
@@ -32,7 +32,7 @@ pub struct MarkedRow {
 #[derive(Debug, Drop)]
 pub struct Set {
     pub depth: u32,
-    /// The spots in order. Behind a row of several the next one begins, one gap further on, so that all spots of a row go on
+    /// The spots in order. After a row of several the next one begins, one gap further on, so that all spots of a row go on
     /// by one token of the word.
     pub rows: Vec<Row>,
 

@@ -172,7 +172,7 @@ module _ (changes : List Change) (floor : ℕ) where
     same_conditions zero within = refl
     same_conditions (suc n) within = subst SameConditions (let e : n + 1 ≡ suc n = omega arith in e) (conditions_more n (omega (arith, within)) (same_conditions n (omega (arith, within))))
 
-    -- where none of the next ones is kept, the same files and conditions are there behind them
+    -- where none of the next ones is kept, the same files and conditions are there after them
     pub files_skipped : (from to : ℕ) → from ≤ to → to ≤ length changes → ((r : ℕ) → from < r → r ≤ to → IsKept changes floor r → ⊥) → files_of q (blanked_up_to changes floor to) ≡ files_of q (blanked_up_to changes floor from)
     files_skipped from to order within none =
         same_files to within ∙ ap (files_by q []) (skipped from to order within none) ∙ sym (same_files from (omega (arith, order, within)))

@@ -1,5 +1,5 @@
 -- The kept changes alone leave the conditions of each version from the floor on.
-use Rattle.std.proofs.Common.{◌≡◌, ◌⊎◌, ℕ, zero, suc, ◌+◌, ◌-◌, ◌<◌, ◌≤◌, Bool, true, false, cond, Some, List, [], ◌∷◌, ◌++◌, length, get_or, take, drop, filter, refl, sym, subst, ap, ◌∙◌, ⊎_elim, arith, true≢false}
+use Rattle.std.proofs.Common.{◌≡◌, ℕ, zero, suc, ◌+◌, ◌-◌, ◌<◌, ◌≤◌, Bool, true, false, cond, Some, List, [], ◌∷◌, ◌++◌, length, get_or, take, drop, filter, refl, sym, subst, ap, ◌∙◌, ⊎_elim, arith, true≢false}
 use Rattle.std.specs.Prelude.{not}
 use Rattle.std.specs.List.{list_any}
 use Rattle.std.specs.Str.{bytes_eq}
@@ -36,11 +36,11 @@ conditions_by_next q cs c true = conditions_by_more q [] cs c
 conditions_by_next q cs c false = ap (conditions_by q []) (append-nil cs)
 
 module _ (changes : List Change) (floor : ℕ) (q : List ℕ) where
-  -- whether a gate of the project up to the floor is behind a number
+  -- whether a gate of the project up to the floor is after a number
   abbrev pub follows : ℕ → Bool
   follows n = list_any (is_gate_of q) (drop n (take floor changes))
 
-  -- one behind the next number is behind this one
+  -- one after the next number is after this one
   pub follows_before : (n : ℕ) → follows (n + 1) ≡ true → follows n ≡ true
   follows_before n h =
       let f = any_follows (is_gate_of q) changes floor (n + 1) h in
@@ -143,7 +143,7 @@ module _ (changes : List Change) (floor : ℕ) (q : List ℕ) where
   follows_none : (n : ℕ) → floor ≤ n → follows n ≡ false
   follows_none n low = false_from_ne_true (follows n) (λ h. let f = any_follows (is_gate_of q) changes floor n h in absurd (omega (arith, f.behind, f.within, low)))
 
-  -- nor behind the last change
+  -- nor after the last change
   follows_past : (n : ℕ) → length changes ≤ n → follows n ≡ false
   follows_past n low =
       false_from_ne_true (follows n) (λ h.

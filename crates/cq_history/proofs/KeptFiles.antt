@@ -51,7 +51,7 @@ filter_insert_gone kept files zero f h = ap (λ z. cond z (f ∷ filter kept fil
 filter_insert_gone kept [] (suc n) f h = ap (λ z. cond z (f ∷ []) []) h
 filter_insert_gone kept (g ∷ files) (suc n) f h = ap (λ gs. cond (kept g) (g ∷ gs) gs) (filter_insert_gone kept files n f h)
 
--- where all files are behind a path, it belongs in front
+-- where all files are after a path, it belongs in front
 in_front : (f : Source) (files : List Source) → AllByRecursion (λ (g : Source). is_before f.path g.path ≡ true) files → insert files (place_of f.path files) f ≡ f ∷ files
 in_front f [] all = refl
 in_front f (g ∷ files) all = ap (λ z. insert (g ∷ files) (cond (not z) (1 + place_of f.path files) 0) f) all.0
@@ -107,7 +107,7 @@ same_cond false x = refl
 pub take_past : (changes : List Change) (version : ℕ) → length changes < version → take (length changes) changes ≡ take version changes
 take_past changes version past = take_all (length changes) changes (omega arith) ∙ sym (take_all version changes (omega (arith, past)))
 
--- the change behind the first ones, by its number
+-- the change after the first ones, by its number
 pub next_there : (changes : List Change) (n : ℕ) → n < length changes → change_at changes (n + 1) ≡ Some (get_or changes n no_change)
 next_there changes n within =
     let index : n + 1 - 1 ≡ n = omega arith in

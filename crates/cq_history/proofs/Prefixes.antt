@@ -47,7 +47,7 @@ changes_from s (e ∷ es) =
 pub changes_in-state : (callers : ℕ) (h : List Event) → changes_in (state callers h) ≡ accepted h
 changes_in-state callers h = changes_from (start callers) h
 
--- the files at a version do not depend on what comes behind the accept of that version
+-- the files at a version do not depend on what comes after the accept of that version
 pub files_at-append : (h es : List Event) (v : ℕ) (q : List ℕ) → v ≤ length (accepted h) → files_at (accepted (h ++ es)) v q ≡ files_at (accepted h) v q
 files_at-append h es v q le = ap (λ cs. files_of q (take v cs)) (accepted-append h es) ∙ ap (files_of q) (take-append-le v (accepted h) (accepted es) le)
 

@@ -1,4 +1,4 @@
--- What a caller's own event leaves behind a history.
+-- What a caller's own event leaves after a history.
 use Rattle.std.proofs.Common.{◌≡◌, ℕ, zero, suc, ◌+◌, ◌-◌, ◌<◌, true, not, List, [], ◌∷◌, ◌++◌, length, take, get_or, set, fold, Option, Some, None, refl, sym, ap, ◌∙◌, subst, arith, true≢false, length-append}
 use Rattle.std.specs.Arc.{arc_value}
 use Rattle.std.proofs.lemmas.List.{length-set, length-replicate, get_or_push, get_or-set_same}
@@ -37,7 +37,7 @@ module _ (callers c : ℕ) (h : List Event) where
       subst (λ (t : State). IsAccepted t (length (accepted h) + 1) × ((slot_of t (length (accepted h) + 1)).change ≡ change)) (sym (state_push callers h (Accept c change)))
       ((omega arith, omega (arith, number, length-append s.slots (new_slot change ∷ []))), ap (λ (slot : Slot). slot.change) (get_or_push s.slots (new_slot change) no_slot (length (accepted h) + 1 - 1) (omega (arith, number))))
 
-  -- a change is done behind its work
+  -- a change is done after its work
   pub done_then : (r : ℕ) → IsUndone (state callers h) r → IsDone (state callers (h ++ Done c r ∷ [])) r
   done_then r is =
       let s = state callers h in

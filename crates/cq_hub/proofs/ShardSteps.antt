@@ -1,4 +1,4 @@
--- The shards beside a board: before any event, behind one more, where one applies the next change, and what they answer.
+-- The shards beside a board: before any event, after one more, where one applies the next change, and what they answer.
 use Rattle.std.proofs.Common.{◌≡◌, ℕ, ◌+◌, ◌%◌, ◌<◌, ◌≤◌, List, [], ◌∷◌, ◌++◌, length, take, get_or, set, Option, Some, None, Global, sym, ap, ◌∙◌, subst, subst₂, ⊎_elim, arith}
 use Rattle.std.specs.Prelude.{◌^◌, Contains, IfSome}
 use Rattle.std.specs.Arc.{arc_value}
@@ -89,7 +89,7 @@ module _ (h : List Event) (e : Event) (old new : board.BoardState) (is : board.S
 -- ---- the next change is applied
 
 module _ (IsWindow : Lang → List ℕ → ℕ → ℕ → Type 0) (b : board.BoardState) where
-  -- the shard applied changes that are ready behind those that it had
+  -- the shard applied changes that are ready after those that it had
   pub shard_applied : (n : ℕ) (old new : Contents) → (old.applied ≤ ready b.state → new.applied ≤ ready b.state) → old.applied ≤ new.applied → new.shard ≡ old.shard → new.shards ≡ old.shards → new.floor ≡ old.floor → (StandsFor IsWindow (changes_in b.state) old → StandsFor IsWindow (changes_in b.state) new) → IsShardOf IsWindow b n old → IsShardOf IsWindow b n new
   shard_applied n old new ready_is more shard shards floor stands was = record {
     stands = stands was.stands;
@@ -126,7 +126,7 @@ module _ {W : Type 0} (IsWork : Lang → List ℕ → W → Type 0) where
   abbrev IsOwned : Lang → List ℕ → Arc W Global → Type 0
   IsOwned lang text w = IsWork lang text (arc_value w)
 
-  -- with the work of the change behind them they are those of one change more
+  -- with the work of the change after them they are those of one change more
   pub works_more : (changes : List Change) (from : ℕ) (works : List (Option (Arc W Global))) (work : Option (Arc W Global)) → HasItsWork IsOwned (change_at changes (from + length works + 1)) work → HaveTheirWorks IsOwned changes from works → HaveTheirWorks IsOwned changes from (works ++ work ∷ [])
   works_more changes from works work here before i d lt =
       let many = length_push works work in

@@ -51,7 +51,7 @@ module _ {S P : Type 0} (Stands : S → P → ℕ → List Event → Type 0) (se
   abbrev pub HasOpen : {W : Type 0} → (Settings → Lang → List ℕ → W → Type 0) → View W → Type 0
   HasOpen IsWorkOf view = HasSeen Stands hub pass (λ c h. IsOpen (IsWorkOf (settings hub)) (state (callers hub) h) c view)
 
--- ---- what a call answers: at the old pass and the new one, behind each history that the old one stood for
+-- ---- what a call answers: at the old pass and the new one, after each history that the old one stood for
 
 module _ {S P : Type 0} (Stands : S → P → ℕ → List Event → Type 0) (alone : Type 0) (settings : S → Settings) (callers : S → ℕ) (hub : S) (old new : P) where
   -- others' events came, and none of the caller's own
@@ -75,7 +75,7 @@ module _ {S P : Type 0} (Stands : S → P → ℕ → List Event → Type 0) (al
       MatchOption job (Extends Stands alone Never hub old new (λ _. []) (λ _ mid. IsNoneFree (state (callers hub) mid)))
       (λ j. Extends Stands alone Never hub old new (λ c. event.Took c j.change ∷ []) (λ _ mid. IsFirstFree (state (callers hub) mid) j))
 
-  -- it is the change's job, or there is none where the change is done
+  -- it is the change's job, or there is none if the change is done
   abbrev pub FindsJob : ℕ → Result (Option Job) Memory → Type 0
   FindsJob change result = Extends Stands alone Never hub old new (λ _. []) (λ _ mid. IfOk result (IsJobFor (state (callers hub) mid) change))
 
@@ -93,7 +93,7 @@ module _ {S P : Type 0} (Stands : S → P → ℕ → List Event → Type 0) (al
   abbrev pub SeesDone : ℕ → Type 0
   SeesDone change = Extends Stands alone Never hub old new (λ _. []) (λ _ mid. IsDone (state (callers hub) mid) change)
 
-  -- publications came; where there is an answer, it is the last published version, and at least this one
+  -- publications came; if there is an answer, it is the last published version, and at least this one
   abbrev pub Publishes : ℕ → Result ℕ Memory → Type 0
   Publishes to result = Extends Stands alone IsPublication hub old new (λ _. []) (λ _ mid. IfOk result (HasPublished (state (callers hub) mid) to))
 
@@ -101,12 +101,12 @@ module _ {S P : Type 0} (Stands : S → P → ℕ → List Event → Type 0) (al
   abbrev pub Opens : {W : Type 0} → (Settings → Lang → List ℕ → W → Type 0) → View W → Type 0
   Opens IsWorkOf view = Extends Stands alone Never hub old new (λ c. event.Open c view.version ∷ []) (λ _ mid. IsLatest (IsWorkOf (settings hub)) (state (callers hub) mid) view)
 
-  -- where there is an answer, it is the entries with the key in all files of the view's version
+  -- if there is an answer, it is the entries with the key in all files of the view's version
   abbrev pub Reads : {W : Type 0} → indexed.Ghosts W → View W → ℕ → Result (Vec Entry Global) Memory → Type 0
   Reads of view key result =
       Extends Stands alone Never hub old new (λ _. []) (λ _ mid. IfOk result (λ entries. AreEntriesWith (HasWindow of.keys_in of.IsWorkOf (settings hub)) (accepted mid) view.version key entries.items))
 
-  -- floors may have come; the last one is the least of the published version and the open ones, and where there is an answer, it
+  -- floors may have come; the last one is the least of the published version and the open ones, and if there is an answer, it
   -- is that
   abbrev pub Sweeps : Result ℕ Memory → Type 0
   Sweeps result = Extends Stands alone IsFloor hub old new (λ _. []) (λ _ mid. HasGreatestFloor (state (callers hub) mid) result)

@@ -10,11 +10,11 @@ use Rattle.cq_shard.specs.Shard.{HaveTheirWorks, IsOwnedOf, in_owned, all_brough
 use Rattle.cq_board.specs.Stands.{BoardState}
 use Rattle.cq_hub.specs.declared.applying.Coming.{Coming}
 
--- the works of the board's changes behind so many
+-- the works of the board's changes after so many
 abbrev pub AreWorksBehind : {W : Type 0} → (Settings → Lang → List ℕ → W → Type 0) → BoardState → ℕ → List (Option (Arc W Global)) → Type 0
 AreWorksBehind IsWorkOf b from works = HaveTheirWorks (IsOwnedOf IsWorkOf b.settings) (changes_in b.state) from works
 
--- The works are those of the board's changes behind one up to another, and for each shard from this number on there is what
+-- The works are those of the board's changes after one up to another, and for each shard from this number on there is what
 -- they bring to it.
 pub record IsComing {W : Type 0} (keys_in : W → List ℕ) (IsWorkOf : Settings → Lang → List ℕ → W → Type 0) (b : BoardState) (next : ℕ) (c : Coming W) : Type 0 where
   pub done : c.to ≤ ready b.state

@@ -32,7 +32,7 @@ abbrev pub Never : Event → Type 0
 Never e = ⊥
 
 -- The second history is the first one and further events, of which the caller's are these, in this order. Others' events
--- may stand anywhere between them; but where nobody else calls the hub, those alone that `May` come.
+-- may be anywhere between them; but if nobody else calls the hub, only those that `May` come.
 pub record Grows (alone : Type 0) (May : Event → Type 0) (c : ℕ) (h after events : List Event) : Type 0 where
   pub more : List Event
   pub after_is : after ≡ h ++ more
@@ -52,7 +52,7 @@ module _ {S P : Type 0} (Stands : S → P → ℕ → List Event → Type 0) whe
   abbrev pub WhereStands : (S → ℕ → List Event → Type 0) → Type 0
   WhereStands Holds = (hub : S) (pass : P) (c : ℕ) (h : List Event) → Stands hub pass c h → Holds hub c h
 
-  -- A call behind a history: others' events may come, what the call answers is said of the history then, and behind that
+  -- A call after a history: others' events may come, what the call answers is said of the history then, and after that
   -- one the call's own events come at once. The pass stands for all of it.
   pub record Calls (alone : Type 0) (May : Event → Type 0) (c : ℕ) (hub : S) (pass : P) (h events : List Event) (Says : List Event → Type 0) : Type 0 where
     pub mid : List Event

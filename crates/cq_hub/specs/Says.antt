@@ -32,7 +32,7 @@ IsFirstFree s j = (j.change ≡ first_free s) × IsAccepted s j.change × IsJob 
 abbrev pub IsNoneFree : State → Type 0
 IsNoneFree s = length s.slots < first_free s
 
--- the change's job where it is not done, and none where it is
+-- the change's job if it is not done, and none if it is
 abbrev pub IsJobFor : State → ℕ → Option Job → Type 0
 IsJobFor s change job = MatchOption job (IsDone s change) (λ j. IsUndone s change × (j.change ≡ change) × IsJob s j × HasSoundText j)
 
@@ -40,7 +40,7 @@ IsJobFor s change job = MatchOption job (IsDone s change) (λ j. IsUndone s chan
 abbrev pub HasPublished : State → ℕ → ℕ → Type 0
 HasPublished s to version = (version ≡ s.published) × (to ≤ version)
 
--- the floor is the least of the published version and the open ones, and where there is an answer, it is that floor
+-- the floor is the least of the published version and the open ones, and if there is an answer, it is that floor
 abbrev pub HasGreatestFloor : State → Result ℕ Memory → Type 0
 HasGreatestFloor s result = (s.floor ≡ greatest_floor s) × IfOk result (λ floor. floor ≡ s.floor)
 

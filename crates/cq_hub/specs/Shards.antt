@@ -39,7 +39,7 @@ pub record AreKeptOf {W : Type 0} (keys_in : W → List ℕ) (IsWorkOf : Setting
   pub stands : StandsFor (HasWindow keys_in IsWorkOf settings) changes c
   pub kept : AreKeptPuts changes floor keep
 
--- The shard was swept up to a floor but for the changes to keep, where its own was lower; else it is as it was.
+-- The shard was swept up to a floor but for the changes to keep, if its own was lower; else it is as it was.
 abbrev pub IsSweptTo : ℕ → List ℕ → Contents → Contents → Type 0
 IsSweptTo floor keep old new = ((old.floor < floor) × (new ≡ swept floor keep old)) ⊎ ((floor ≤ old.floor) × (new ≡ old))
 

@@ -26,7 +26,7 @@ pub fn shards_of(alloc: Global, number: u32) -> Result<Vec<Shard>, Memory>
 }
 
 /// Each of the board's shards applies the changes up to a number up to which all are done, at once. The keys of their works
-/// are looked at once, where the shards have applied as many changes. Where memory is refused, some shards have applied them,
+/// are looked at once, if the shards have applied as many changes. If memory is refused, some shards have applied them,
 /// and others none.
 pub(crate) fn apply_up_to<W: Indexed, G: Gate>(
     alloc: Global,
@@ -97,7 +97,7 @@ fn catch_up<W: Indexed, L: Ledger>(
     Ok(())
 }
 
-// The works of the changes behind one up to another, and what they bring to each shard.
+// The works of the changes after one up to another, and what they bring to each shard.
 #[derive(Drop)]
 struct Coming<W> {
     from: u64,
@@ -107,7 +107,7 @@ struct Coming<W> {
 }
 
 impl<W: Indexed> Coming<W> {
-    // The works that the board has, parted anew.
+    // The works that the board has, parted again.
     fn behind(alloc: Global, board: &Board<W>, from: u64, to: u64) -> Result<Coming<W>, Memory>
         requires done { to ≤ ready board.now.state }
         requires floor { board.now.state.floor ≤ from }
@@ -126,7 +126,7 @@ impl<W: Indexed> Coming<W> {
         })
     }
 
-    // They are those behind another change, where they aren't yet.
+    // They are those after another change, if they aren't yet.
     fn turn_to(&mut self, alloc: Global, board: &Board<W>, from: u64) -> Result<(), Memory>
         requires done { self.old.to ≤ ready board.now.state }
         requires floor { board.now.state.floor ≤ from }
@@ -143,7 +143,7 @@ impl<W: Indexed> Coming<W> {
     }
 }
 
-/// The works of the changes behind one up to another, as the board has them: each is kept, since none is below the floor. It
+/// The works of the changes after one up to another, as the board has them: each is kept, since none is below the floor. It
 /// takes memory for an owner of each.
 pub fn finished_works<W: Indexed>(
     alloc: Global,

@@ -60,7 +60,7 @@ pub trait Hub<W: Indexed> {
             (SeesMore Stands alone settings callers self.now pass.old pass.new) }
         ensures asked { asked pass.new ≡ asked pass.old };
 
-    /// The job of an accepted change, for anybody who helps; none where the change is done.
+    /// The job of an accepted change, for anybody who helps; none if the change is done.
     fn job(&self, change: u64, pass: &mut Self::Pass) -> Result<Option<Job>, Memory>
         requires accepted { HasSeenChange Stands settings callers self.now pass.old change }
         ensures job { FindsJob Stands alone settings callers
@@ -86,9 +86,9 @@ pub trait Hub<W: Indexed> {
             → SeesDone Stands alone settings callers self.now pass.old pass.new change }
         ensures asked { asked pass.new ≡ asked pass.old };
 
-    /// Publishes the changes up to a number, all of which are done, and answers the last published version. Where memory
-    /// was refused in the middle of a publication, the listing of the last one is made anew here. Where memory is
-    /// refused, the index may be further on than what is published. The gate is told of each shard that was brought up.
+    /// Publishes the changes up to a number, all of which are done, and answers the last published version. If memory
+    /// was refused in the middle of a publication, the listing of the last one is made again here. If memory is
+    /// refused, the index may be further on than what is published. The gate is called for each shard that was brought up.
     fn advance<G: Gate>(
         &self,
         alloc: Global,
@@ -101,8 +101,8 @@ pub trait Hub<W: Indexed> {
             self.now pass.old pass.new to result }
         ensures asked { asked pass.new ≡ asked pass.old };
 
-    /// Opens a view of the last published version, where this caller has none open. It makes no listing: where memory was
-    /// refused in the middle of a publication, it tells so again until `advance` has made the listing.
+    /// Opens a view of the last published version, if this caller has none open. It makes no listing: if memory was
+    /// refused in the middle of a publication, it reports that again until `advance` has made the listing.
     fn open_view(&self, pass: &mut Self::Pass) -> Result<View<W>, Memory>
         requires closed { HasNoView Stands settings callers self.now pass.old }
         ensures opened { IfOk result
@@ -137,8 +137,8 @@ pub trait Hub<W: Indexed> {
         ensures shut { Shuts Stands alone settings callers self.now pass.old pass.new }
         ensures asked { asked pass.new ≡ asked pass.old };
 
-    /// Gives up the versions below the published one and each open one, lets go of what they alone need, and answers the least
-    /// that is left. Where memory is refused, they are given up, and some of it may be let go. The floor is raised once at
+    /// Gives up the versions below the published one and each open one, lets go of what only they need, and answers the least
+    /// that is left. If memory is refused, they are given up, and some of it may be let go. The floor is raised once at
     /// most.
     fn sweep(&self, alloc: Global, pass: &mut Self::Pass) -> Result<u64, Memory>
         requires stands { IsPassOf Stands self.now pass.old }

@@ -52,8 +52,8 @@ impl<W: Indexed> Solo<W> {
     }
 
     /// Gives up the versions below the published one and the open one, sweeps each shard that was not swept so far, and
-    /// answers the floor, which is then each shard's. It looks at each shard's floor. Where one is lower, the board tells
-    /// the puts that the new floor keeps, and may take memory for them. Where that is refused, the versions are given up
+    /// answers the floor, which is then each shard's. It looks at each shard's floor. If one is lower, the board gives
+    /// the puts that the new floor keeps, and may take memory for them. If that is refused, the versions are given up
     /// all the same.
     pub fn sweep(&self, alloc: Global, pass: &mut SoloPass<W>) -> Result<u64, Memory>
         requires stands { IsPassOf (SoloStands W.keys_in W.IsWorkOf) self.now pass.old }

@@ -6,8 +6,8 @@ use cq_board::Board;
 use cq_shard::{Indexed, Shard, it_knows_what_is_kept};
 use std::alloc::Global;
 
-/// Each of the board's shards is swept up to the board's floor, where it was not, but for the puts that this keeps. It
-/// asks the board for these, and does nothing where all are swept.
+/// Each of the board's shards is swept up to the board's floor, if it was not, but for the puts that this keeps. It
+/// asks the board for these, and does nothing if all are swept.
 pub(crate) fn sweep_shards<W: Indexed>(
     alloc: Global,
     board: &Board<W>,
@@ -43,7 +43,7 @@ fn least_floor(floor: u64, shards: &[Shard]) -> u64
     least
 }
 
-/// The shard is swept up to a floor, where it was not, but for the puts that this keeps of the changes that it stands
+/// The shard is swept up to a floor, if it was not, but for the puts that this keeps of the changes that it stands
 /// for.
 pub fn sweep_to<W: Indexed>(floor: u64, keep: &[u64], shard: &mut Shard)
     requires applied { floor ≤ shard.old.applied }

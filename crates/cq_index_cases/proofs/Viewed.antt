@@ -10,7 +10,7 @@ use Rattle.cq_hub.specs.Hubs.{Calls}
 use Rattle.cq_hub.specs.Views.{IsOpen}
 use Rattle.cq_session.specs.Moving.{open_stays}
 
--- behind a call that adds no event of the caller's own
+-- after a call that adds no event of the caller's own
 pub open_behind : {S P W : Type 0} (Stands : S → P → ℕ → List Event → Type 0) (alone : Type 0) (May : Event → Type 0) (IsWork : Lang → List ℕ → W → Type 0) (set : Settings) (callers c : ℕ) (hub : S) (pass : P) (v : View W) (h : List Event) (Says : List Event → Type 0)
     → Lawful set callers h → IsOpen IsWork (state callers h) c v → (call : Calls Stands alone May c hub pass h [] Says) → IsOpen IsWork (state callers (call.mid ++ [])) c v
 open_behind Stands alone May IsWork set callers c hub pass v h Says law opened call =

@@ -38,7 +38,7 @@ fn publish<W: Indexed, H: Hub<W>>(alloc: Global, hub: &H, pass: &mut H::Pass) ->
 }
 
 // A view of the last version is open while all that is done is published: the floor of a sweep, what the view has of a key
-// then, and the floor of a sweep behind it.
+// then, and the floor of a sweep after it.
 fn sweep_viewed<W: Indexed, H: Hub<W>>(
     alloc: Global,
     hub: &H,

@@ -49,7 +49,7 @@ module _ {X : Type 0} where
   keys_push [] n v = refl
   keys_push (x ∷ es) n v = ap (λ ns. x.0 ∷ ns) (keys_push es n v)
 
-  -- one behind all others comes last
+  -- one after all others comes last
   pub insert_last : (es : List (ℕ × X)) (n : ℕ) (v : X) → ((m : ℕ) → Contains (keys_of es) m → m < n) → insert_entry nat_cmp es n v ≡ es ++ (n, v) ∷ []
   insert_last [] n v behind = refl
   insert_last (x ∷ es) n v behind =
@@ -216,7 +216,7 @@ module _ {W : Type 0} (IsWork : Lang → List ℕ → W → Type 0) where
     pub is_full_as : is_full settings (state_from slots 0 floor []) ≡ (nat_le settings.change_limit (length kept.entries) || nat_le (2 ^ 60) accepted)
     is_full_as = ap₂ (λ n m. nat_le settings.change_limit n || nat_le (2 ^ 60) m) (sym (count_is slots floor kept is.holds)) (sym is.number_is)
 
-    -- what was put behind all others is taken out again
+    -- what was put after all others is taken out again
     pub taken_back : (k : Kept W) (put back : List (ℕ × Kept W)) → put ≡ insert_entry nat_cmp kept.entries (accepted + 1) k → back ≡ remove_entry (is_at (nat_cmp (accepted + 1))) put → back ≡ kept.entries
     taken_back k put back is gone =
         gone ∙ ap (remove_entry (is_at (nat_cmp (accepted + 1)))) (is ∙ insert_last kept.entries (accepted + 1) k next_is_new) ∙ remove_last kept.entries (accepted + 1) k next_is_new

@@ -1,4 +1,4 @@
--- What is found among the changes that are held: at a number, behind one, and the puts up to the floor.
+-- What is found among the changes that are held: at a number, after one, and the puts up to the floor.
 use Rattle.std.proofs.Common.{◌≡◌, ℕ, ◌+◌, ◌-◌, ◌<◌, ◌≤◌, Bool, true, false, cond, nat_le, List, [], ◌∷◌, ◌++◌, filter, get_or, Option, Some, None, refl, sym, ap, ◌∙◌, subst, Bor, arith}
 use Rattle.std.specs.Prelude.{◌↔◌, Contains, IsSome, IfSome, is_some, option_copied}
 use Rattle.std.specs.BTreeMap.{BTreeMap, get}
@@ -100,7 +100,7 @@ module _ {W : Type 0} (IsWork : Lang → List ℕ → W → Type 0) (slots : Lis
   got_work n None is = tt
   got_work n (Some k) is = (held_at IsWork slots floor kept holds n k.now (sym is)).0.1
 
-  -- ---- behind a number
+  -- ---- after a number
 
   module _ (settings : Settings) (after : ℕ) (range : List (ℕ × Kept W)) (is_range : IsRangeOf nat_cmp (Included (after + 1)) Unbounded kept range) where
     pub next_is : (n : ℕ) (k : Kept W) (rest : List (ℕ × Kept W)) → range ≡ (n, k) ∷ rest → IsNextHeld (accepted_from settings slots floor) after n × IsHeldAs IsWork slots (n, k)

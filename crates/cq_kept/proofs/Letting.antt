@@ -130,7 +130,7 @@ module _ (old over : List Over) (floor : ℕ) (before numbers : List ℕ) (is : 
           ∙ or_none (is_over_at (take is.i old) floor n) (nat_le x.by floor && nat_eq x.number n)
           ∙ ap (λ b. is_over_at (take is.i old) floor n || (b && nat_eq x.number n)) (le-leb x.by floor low)
 
-  -- all that are left are behind the floor
+  -- all that are left are above the floor
   pub forgetting_last : All (λ o. floor < o.by) over → (over ≡ over_behind floor old) × (numbers ≡ not_over old floor before)
   forgetting_last late = (
     is.left ∙ sym (ap (over_behind floor) (sym (take-append-drop is.i old)) ∙ filter-append (λ (o : Over). nat_lt floor o.by) (take is.i old) (drop is.i old) ∙ ap₂ (λ xs ys. xs ++ ys) none_early all_late),
@@ -175,7 +175,7 @@ module _ (old over : List Over) (floor : ℕ) (before numbers : List ℕ) (is : 
           ap (λ b. cond (not b) (n ∷ not_over (take is.i old) floor ns) (not_over (take is.i old) floor ns)) (sym (same_over n))
           ∙ ap (λ ms. cond (not (is_over_at old floor n)) (n ∷ ms) ms) (same_numbers ns)
 
--- what is left is in order, so where the first is behind the floor, all are
+-- what is left is in order, so where the first is above the floor, all are
 pub late_all : (old over : List Over) (floor : ℕ) (before numbers : List ℕ) → AllPairs IsNoLater old → IsForgetting old over floor before numbers → (x : Over) → x ≡ get_or over 0 x → 0 < length over → floor < x.by → All (λ o. floor < o.by) over
 late_all old over floor before numbers order is x first some late k d within =
     by_place k within
@@ -200,7 +200,7 @@ late_all old over floor before numbers order is x first some late k d within =
 pub none_behind : (over : List Over) (floor : ℕ) → (0 < length over → ⊥) → All (λ o. floor < o.by) over
 none_behind over floor none k d within = absurd (none (omega (arith, within)))
 
--- what was first, and the rest behind it
+-- what was first, and the rest after it
 pub popped_first : (over : List Over) (x : Over) (rest : List Over) → x ≡ get_or over 0 x → 0 < length over → rest ≡ drop 1 over → over ≡ x ∷ rest
 popped_first over x rest first some is = drop_more over 0 x some ∙ ap₂ (λ y ys. y ∷ ys) (sym first) (sym is)
 

@@ -1,4 +1,4 @@
--- The places at which files stand, the last gates and what is over, behind one change more.
+-- The places at which files stand, the last gates and what is over, after one change more.
 use Rattle.std.proofs.Common.{◌≡◌, ◌⊎◌, ◌↔◌, ℕ, ◌+◌, ◌<◌, ◌≤◌, cond, ◌&&◌, true, List, [], ◌∷◌, ◌++◌, length, Option, Some, None, refl, sym, ap, ap₂, ◌∙◌, subst, inl, inr, ⊎_elim, append-nil, arith, true≢false}
 use Rattle.std.specs.Arc.{arc_value}
 use Rattle.std.specs.Prelude.{is_some}

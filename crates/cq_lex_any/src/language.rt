@@ -29,7 +29,7 @@ impl Lexis for Any {
         Any
     }
 
-    fn longest(&mut self, units: &[Unit], at: u32, mode: u8) -> Option<Found> {
+    fn longest(&mut self, units: &[Unit], at: u32, mode: u64) -> Option<Found> {
         if is_mark(units, at) {
             Some(one(Spell::Blank, mode))
         } else {

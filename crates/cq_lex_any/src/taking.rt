@@ -8,7 +8,7 @@ use cq_base::Class;
 use cq_munch::{Found, Spell, Unit, longest_spelling};
 
 /// An element of one unit.
-pub(crate) fn one(spell: Spell, mode: u8) -> Found
+pub(crate) fn one(spell: Spell, mode: u64) -> Found
     ensures { result ≡ record { spell = spell; units = 1; mode = mode } }
 {
     Found {
@@ -29,7 +29,7 @@ fn class_of(first: char) -> Class
 }
 
 /// The element at the front, if there is no byte order mark.
-pub(crate) fn element(rest: &[Unit], mode: u8) -> Found
+pub(crate) fn element(rest: &[Unit], mode: u64) -> Found
     requires some { 0 < length rest.now }
     requires short { length rest.now < 2 ^ 32 }
     ensures taken { (at : ℕ) → Takes plain at mode (characters rest.now) (Some result) }

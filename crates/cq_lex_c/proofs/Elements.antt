@@ -3,10 +3,7 @@ use Rattle.std.proofs.Common.{◌≡◌, ℕ, zero, suc, ◌≤◌, Option, Some
 use Rattle.std.specs.Prelude.{IfSome, IfNone, IsTrue, IsFalse, MatchBool}
 use Rattle.std.proofs.lemmas.Bool.{and_parts, and_right, not-true, false_from_ne_true}
 use Rattle.cq_base.proofs.Bools.{MatchBool-from_false, MatchBool-from_true}
-use Rattle.cq_munch.specs.declared.element.Found.{Found}
-use Rattle.cq_munch.specs.Language.{Language, Takes}
 use Rattle.cq_munch.specs.Longest.{IsLongest, LongestAt}
-use Rattle.cq_lex_c.specs.C.{moded, mode_behind}
 use Rattle.cq_lex_c.specs.Headers.{EndsAt, IsHeader, closes, has_header}
 
 pub matched : (b : Bool) (P Q : Type 0) → MatchBool b P Q → ((b ≡ true) × P) ⊎ ((b ≡ false) × Q)
@@ -65,16 +62,3 @@ header_some mode text (Some n) is h = (ap (λ m. (m == 2) && has_header text) is
 pub header_none : (mode : ℕ) (text : List ℕ) (r : Option ℕ) → LongestAt IsHeader text r → IfNone r (IsFalse ((mode == 2) && has_header text))
 header_none mode text None h = and_right (mode == 2) (has_header text) (false_from_ne_true (has_header text) (header_not text h))
 header_none mode text (Some n) h = tt
-
--- ---- modes
-
--- the element, with the mode behind it
-pub with_mode : (lang : Language) (at mode : ℕ) (text : List ℕ) (f : Found) (behind : ℕ) → Takes lang at mode text (Some f) → behind ≡ mode_behind mode f.spell (take f.units text) → Takes (moded lang) at mode text (Some (record { spell = f.spell; units = f.units; mode = behind }))
-with_mode lang at mode text f behind h is = (
-  record { some = h.0.some; within = h.0.within; spelled = h.0.spelled; longest = h.0.longest },
-  h.1,
-  is,
-)
-
-pub without : (lang : Language) (at mode : ℕ) (text : List ℕ) → Takes lang at mode text None → Takes (moded lang) at mode text None
-without lang at mode text h = h

@@ -1,4 +1,4 @@
--- The longest text with a prefix, from the longest behind the prefix.
+-- The longest text with a prefix, from the longest after the prefix.
 use Rattle.std.proofs.Common.{◌≡◌, ◌⊎◌, ℕ, zero, suc, ◌+◌, ◌-◌, ◌<◌, ◌≤◌, Option, Some, None, ◌==◌, List, [], ◌∷◌, ◌↔◌, length, get_or, take, drop, refl, sym, subst, ap, ◌∙◌, inl, inr, ⊎_elim, arith, length-drop, zero-le}
 use Rattle.std.specs.Option.{option_map}
 use Rattle.std.proofs.lemmas.Bool.{eqb-true}
@@ -146,7 +146,7 @@ text_none text double single = λ m some within h.
 pub first_at : (units : List Unit) (at : ℕ) → at < length units → get_or (drop at (characters units)) 0 0 ≡ (unit_at units at).ch
 first_at units at inside = ap (λ t. get_or t 0 0) (drop_more (characters units) at 0 (as_many units at inside)) ∙ ch_at units at inside
 
--- what stands behind it
+-- what comes after it
 pub behind_at : (text : List ℕ) (at : ℕ) → drop (at + 1) text ≡ drop 1 (drop at text)
 behind_at text at = sym (drop-drop 1 at text ∙ ap (λ k. drop k text) (omega arith))
 
@@ -157,7 +157,7 @@ some_at units at inside = let left = length-drop at (characters units) in let ma
 pub none_behind : (p : Pattern) (text : List ℕ) (at read : ℕ) → NoneBegins p (drop at text) 0 read → NoneBegins p text at (at + read)
 none_behind p text at read h = λ k from to. subst (λ t. LongestAt (Spells p) t None) (drop-drop (k - at) at text ∙ ap (λ n. drop n text) (omega arith)) (h (k - at) zero-le (omega arith))
 
--- behind the last unit no 8 stands
+-- after the last unit no 8 stands
 pub nothing_at : (units : List Unit) (at : ℕ) → length units ≤ at → get_or (drop at (characters units)) 0 0 ≡ 56 → ⊥
 nothing_at units at end = by (drop at (characters units)) (let left = length-drop at (characters units) in let many = length-map units (λ (u : Unit). u.ch) in omega arith)
   where

@@ -5,7 +5,7 @@ use Rattle.std.proofs.lemmas.Bool.{eqb-true, eq-eqb}
 use Rattle.cq_lex_c.specs.Headers.{EndsAt, IsHeader}
 use Rattle.cq_lex_c.specs.HeaderNames.{MayStand, IsEnclosed, HeaderNamesAreEnclosed}
 
--- characters and what closes behind them, one or more where none stands before
+-- characters and what closes after them, one or more where none stands before
 abbrev HasBody : ℕ → Bool → List ℕ → Type 0
 HasBody close some s = (body : List ℕ) × (s ≡ body ++ close ∷ []) × (IsTrue some ⊎ (0 < length body)) × AllByRecursion (MayStand close) body
 

@@ -1,4 +1,4 @@
--- Where no line ends directly behind a backslash, nothing is left out.
+-- Where no line ends directly after a backslash, nothing is left out.
 use Rattle.std.proofs.Common.{◌≡◌, ℕ, Bool, true, false, ◌&&◌, ◌==◌, List, [], ◌∷◌, refl, sym, ap, ◌∙◌}
 use Rattle.std.specs.Prelude.{if◌then◌else◌}
 use Rattle.std.proofs.lemmas.Bool.{or_parts}

@@ -7,7 +7,7 @@ use Rattle.cq_munch.specs.Commented.{commented}
 use Rattle.cq_munch.specs.Language.{Language, marked}
 use Rattle.cq_munch.specs.Pattern.{Pattern, except, ◌∣◌}
 use Rattle.cq_munch.specs.Patterned.{any_word, Patterned, with_reserved}
-use Rattle.cq_munch.specs.Table.{Row, table, first}
+use Rattle.cq_munch.specs.Table.{Row, table, first, moded}
 use Rattle.cq_munch.specs.declared.element.Spell.{Spell}
 use Rattle.cq_munch.specs.declared.element.Spell.TheVariants.{Blank, Comment, Token}
 use Rattle.cq_munch.specs.declared.ends.LineEnds.TheVariants.{Feed}
@@ -78,8 +78,5 @@ mode_behind mode Blank s = if bytes_eq s (10 ∷ []) then 0 else mode
 mode_behind mode Comment s = mode
 mode_behind mode (Token class) s = mode_of_token mode s
 
-abbrev pub moded : Language → Language
-moded lang = record { tried = lang.tried; mode_behind = mode_behind }
-
 abbrev pub c : Language
-c = marked (moded unmarked)
+c = marked (moded mode_behind unmarked)

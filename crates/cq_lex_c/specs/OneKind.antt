@@ -11,7 +11,7 @@ use Rattle.cq_munch.specs.Patterned.{patterns_of}
 use Rattle.cq_munch.specs.PlainNames.{plain_fits}
 use Rattle.cq_munch.specs.Quotes.{quoted, item}
 use Rattle.cq_munch.specs.Scanners.{IsScanner}
-use Rattle.cq_munch.specs.Table.{InTable, table}
+use Rattle.cq_munch.specs.Table.{InTable, table, moded}
 use Rattle.cq_munch.specs.declared.element.Spell.{Spell}
 use Rattle.cq_munch.specs.declared.ends.LineEnds.TheVariants.{Feed, ReturnOrFeed}
 use Rattle.cq_munch.proofs.OneKind.{OneKind, one_more, of_table, of_first, of_commented, of_marked}
@@ -19,7 +19,7 @@ use Rattle.cq_munch.proofs.Reserving.{has_row, one_kind_reserved, words_spelled}
 use Rattle.cq_munch.proofs.RowScans.{no_more}
 use Rattle.cq_munch.proofs.Seen.{itself_below}
 use Rattle.cq_munch.proofs.Steps.{behind_word, takes_empty-if}
-use Rattle.cq_lex_c.specs.C.{c as c_language, rows, texts as text_row, prefixed, no_names, unquoted, other, headers, opens_header, with_comments, unmarked, moded}
+use Rattle.cq_lex_c.specs.C.{c as c_language, rows, texts as text_row, prefixed, no_names, unquoted, other, headers, opens_header, with_comments, unmarked, mode_behind}
 use Rattle.cq_lex_c.specs.Characters.{begins_identifier, continues_identifier, stood}
 use Rattle.cq_lex_c.specs.Identifiers.{identifier, keywords}
 use Rattle.cq_lex_c.specs.Numbers.{number}
@@ -123,4 +123,4 @@ one_kind_of_rows =
     (λ s b own h. ⊎_elim (λ too. sym too.0) (λ h. absurd (unrowed b s (no_text s own).alone h)) h)
 
 pub one_kind_of_c : HasOneKind c_language
-one_kind_of_c = of_marked (moded unmarked) (of_first opens_header headers with_comments (of_commented Feed (table rows) (of_table rows one_kind_of_rows)))
+one_kind_of_c = of_marked (moded mode_behind unmarked) (of_first opens_header headers with_comments (of_commented Feed (table rows) (of_table rows one_kind_of_rows)))

@@ -32,7 +32,7 @@ pub(crate) fn is_unquoted(ch: char) -> bool
 }
 
 /// The element at the front, if it has no quotes.
-pub(crate) fn without_quotes(units: &[Unit], mode: u8) -> Option<Found>
+pub(crate) fn without_quotes(units: &[Unit], mode: u64) -> Option<Found>
     requires { length units.now < 2 ^ 32 }
     ensures { (at : ℕ) → Takes (table unquoted) at mode (characters units.now) result }
 {
@@ -45,7 +45,7 @@ pub(crate) fn without_quotes(units: &[Unit], mode: u8) -> Option<Found>
 }
 
 // The element at the front, when no header name is looked for. The texts there, with a prefix and without, are given.
-fn element(units: &[Unit], mode: u8, text: Option<usize>, prefixed: Option<usize>) -> Option<Found>
+fn element(units: &[Unit], mode: u64, text: Option<usize>, prefixed: Option<usize>) -> Option<Found>
     requires short { length units.now < 2 ^ 32 }
     requires text { LongestAt IsText (characters units.now) text }
     requires prefixed { LongestAt IsPrefixed (characters units.now) prefixed }
@@ -70,7 +70,7 @@ fn element(units: &[Unit], mode: u8, text: Option<usize>, prefixed: Option<usize
 }
 
 // The header name at the front, when one is looked for.
-fn header_at(units: &[Unit], mode: u8) -> Option<usize>
+fn header_at(units: &[Unit], mode: u64) -> Option<usize>
     ensures some { IfSome result (IsHeaderAt mode (characters units.now)) }
     ensures none { IfNone result (IsFalse ((mode == 2) && has_header (characters units.now))) }
 {
@@ -85,7 +85,7 @@ fn header_at(units: &[Unit], mode: u8) -> Option<usize>
 /// texts there, with a prefix and without, are given.
 pub(crate) fn taken(
     units: &[Unit],
-    mode: u8,
+    mode: u64,
     text: Option<usize>,
     prefixed: Option<usize>,
 ) -> Option<Found>

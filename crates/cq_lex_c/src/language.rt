@@ -1,4 +1,4 @@
-ghost use Rattle.std.specs.Prelude.{◌<◌, ◌≤◌, ◌^◌, Ok, IfSome, length, drop};
+ghost use Rattle.std.specs.Prelude.{◌<◌, ◌^◌, Ok, length, drop};
 ghost use Rattle.std.proofs.Math.Nat.{le_refl};
 ghost use Rattle.cq_munch.specs.Characters.{characters};
 ghost use Rattle.cq_munch.specs.Language.{Takes};
@@ -23,7 +23,7 @@ pub struct C {
 }
 
 // The element at a unit, if there is no byte order mark, before its mode. After most characters no text in quotes is looked for.
-fn found_at(unclosed: &mut Unclosed, units: &[Unit], at: u32, mode: u8) -> Option<Found>
+fn found_at(unclosed: &mut Unclosed, units: &[Unit], at: u32, mode: u64) -> Option<Found>
     requires inside { at < length units.now }
     requires short { length units.now < 2 ^ 32 }
     requires remembered { IsTrueOf unclosed.old (characters units.now) }
@@ -40,13 +40,11 @@ fn found_at(unclosed: &mut Unclosed, units: &[Unit], at: u32, mode: u8) -> Optio
 }
 
 // The element at a unit.
-fn taken_at(unclosed: &mut Unclosed, units: &[Unit], at: u32, mode: u8) -> Option<Found>
+fn taken_at(unclosed: &mut Unclosed, units: &[Unit], at: u32, mode: u64) -> Option<Found>
     requires inside { at < length units.now }
     requires short { length units.now < 2 ^ 32 }
-    requires known { mode ≤ 3 }
     requires remembered { IsTrueOf unclosed.old (characters units.now) }
     ensures taken { Takes c at mode (drop at (characters units.now)) result }
-    ensures known { IfSome result (λ found. found.mode ≤ 3) }
     ensures remembered { IsTrueOf unclosed.new (characters units.now) }
 {
     let rest = &units[at as usize..];
@@ -89,7 +87,7 @@ impl Lexis for C {
 
     // So that a blank costs the loop over the elements no call.
     #[inline(always)]
-    fn longest(&mut self, units: &[Unit], at: u32, mode: u8) -> Option<Found> {
+    fn longest(&mut self, units: &[Unit], at: u32, mode: u64) -> Option<Found> {
         let first = units[at as usize].ch;
         if is_blank(first) {
             return Some(Found {

@@ -1,4 +1,4 @@
-ghost use Rattle.std.specs.Prelude.{◌≡◌, ◌≤◌, ◌∷◌, [], codes};
+ghost use Rattle.std.specs.Prelude.{◌≡◌, ◌∷◌, [], codes};
 ghost use Rattle.std.specs.Str.{bytes_eq};
 ghost use Rattle.cq_munch.specs.Characters.{characters};
 ghost use Rattle.cq_munch.specs.declared.element.Spell.TheVariants.{Blank};
@@ -32,19 +32,15 @@ fn is_feed(units: &[Unit]) -> bool
 }
 
 /// The mode after a blank of one character.
-pub(crate) fn mode_behind_blank(mode: u8, ch: char) -> u8
-    requires { mode ≤ 3 }
-    ensures mode { result ≡ mode_behind mode Blank (ch ∷ []) }
-    ensures known { result ≤ 3 }
+pub(crate) fn mode_behind_blank(mode: u64, ch: char) -> u64
+    ensures { result ≡ mode_behind mode Blank (ch ∷ []) }
 {
     if ch == '\n' { 0 } else { mode }
 }
 
 /// The mode after an element of these units.
-pub(crate) fn mode_behind(mode: u8, spell: Spell, units: &[Unit]) -> u8
-    requires { mode ≤ 3 }
-    ensures mode { result ≡ mode_behind mode spell (characters units.now) }
-    ensures known { result ≤ 3 }
+pub(crate) fn mode_behind(mode: u64, spell: Spell, units: &[Unit]) -> u64
+    ensures { result ≡ mode_behind mode spell (characters units.now) }
 {
     match spell {
         Spell::Blank => if is_feed(units) { 0 } else { mode },

@@ -1,4 +1,4 @@
--- Semicolons are inserted behind the last tokens of lines.
+-- Semicolons are inserted after the last tokens of lines.
 use Rattle.std.proofs.Common.{◌≡◌, ℕ, Bool, true, false, ◌&&◌, Some, None, if◌then◌else◌, List, [], ◌∷◌, ◌++◌, refl, ap, ◌∙◌}
 use Rattle.cq_base.specs.declared.token.Spelled.{Spelled}
 use Rattle.cq_base.specs.declared.token.Token.{Token}
@@ -19,7 +19,7 @@ at_end : (b : Bool) (t : Token) → behind_last (if b then Some t else None) ≡
 at_end true t = refl
 at_end false t = refl
 
--- what comes behind a token
+-- what comes after a token
 behind : (text : List ℕ) (t : Spelled) (ts : List Spelled)
     → completed_from text (ending t) ts ≡ (if may_end t.token.class t.text && is_final text t ts then semicolon_behind t.token ∷ with_semicolons text ts else with_semicolons text ts)
 behind text t [] = at_end (may_end t.token.class t.text) t.token

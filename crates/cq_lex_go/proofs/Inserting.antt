@@ -7,7 +7,7 @@ use Rattle.cq_base.specs.declared.token.Token.{Token}
 use Rattle.cq_munch.specs.Lexed.{TokensFollow}
 use Rattle.cq_lex_go.specs.Semicolons.{may_end, end_of, ending, between, completed_from, completed}
 
--- the byte behind the last token, where a statement may end with it
+-- the byte after the last token, where a statement may end with it
 abbrev pub end_before : Option Token → ℕ
 end_before None = 0
 end_before (Some last) = end_of last
@@ -43,7 +43,7 @@ follow_end from [] to h = h
 follow_end from (u ∷ us) to h =
     let later = follow_end (u.token.start + u.token.len) us to h.2 in let first = h.0 in omega (arith, later, first)
 
--- the next token begins behind the end of the last one, and within the text
+-- the next token begins after the end of the last one, and within the text
 pub before_next : (text : List ℕ) (tokens all : List Spelled) (last : Option Token) (t : Spelled) (rest : List Spelled) → SoFar text tokens all last (t ∷ rest) → IfSome last (λ l. l.start + l.len ≤ t.token.start)
 before_next text tokens all None t rest h = tt
 before_next text tokens all (Some last) t rest h = h.follow.0

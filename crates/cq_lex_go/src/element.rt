@@ -19,7 +19,7 @@ pub(crate) fn is_blank(ch: char) -> bool
 }
 
 // The element at the front, if no comment is opened.
-fn element(units: &[Unit], mode: u8) -> Option<Found>
+fn element(units: &[Unit], mode: u64) -> Option<Found>
     requires { length units.now < 2 ^ 32 }
     ensures { (at : ℕ) → Takes (table rows) at mode (characters units.now) result }
 {
@@ -32,7 +32,7 @@ fn element(units: &[Unit], mode: u8) -> Option<Found>
 }
 
 /// The element at the front, if there is no byte order mark.
-pub(crate) fn taken(units: &[Unit], mode: u8) -> Option<Found>
+pub(crate) fn taken(units: &[Unit], mode: u64) -> Option<Found>
     requires { length units.now < 2 ^ 32 }
     ensures { (at : ℕ) → Takes unmarked at mode (characters units.now) result }
 {

@@ -1,4 +1,4 @@
-ghost use Rattle.std.specs.Prelude.{◌<◌, ◌≤◌, ◌^◌, Ok, ⊤, IfSome, length, drop};
+ghost use Rattle.std.specs.Prelude.{◌<◌, ◌^◌, Ok, ⊤, length, drop};
 ghost use Rattle.cq_munch.specs.Characters.{characters};
 ghost use Rattle.cq_munch.specs.Language.{Takes};
 ghost use Rattle.cq_lex_go.specs.Go.{go};
@@ -17,12 +17,10 @@ use std::alloc::Global;
 pub struct Go;
 
 // The element at a unit.
-fn taken_at(units: &[Unit], at: u32, mode: u8) -> Option<Found>
+fn taken_at(units: &[Unit], at: u32, mode: u64) -> Option<Found>
     requires inside { at < length units.now }
     requires short { length units.now < 2 ^ 32 }
-    requires known { mode ≤ 3 }
-    ensures taken { Takes go at mode (drop at (characters units.now)) result }
-    ensures known { IfSome result (λ found. found.mode ≤ 3) }
+    ensures { Takes go at mode (drop at (characters units.now)) result }
 {
     if is_mark(units, at) {
         return Some(Found {
@@ -53,7 +51,7 @@ impl Lexis for Go {
 
     // So that a blank costs the loop over the elements no call.
     #[inline(always)]
-    fn longest(&mut self, units: &[Unit], at: u32, mode: u8) -> Option<Found> {
+    fn longest(&mut self, units: &[Unit], at: u32, mode: u64) -> Option<Found> {
         if is_blank(units[at as usize].ch) {
             return Some(Found {
                 spell: Spell::Blank,

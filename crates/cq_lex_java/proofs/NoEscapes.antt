@@ -1,4 +1,4 @@
--- Where no u stands directly behind a backslash, nothing is translated.
+-- Where no u stands directly after a backslash, nothing is translated.
 use Rattle.std.proofs.Common.{◌≡◌, ◌+◌, nat_lt, Bool, true, false, not, ◌&&◌, ◌==◌, Ok, List, [], ◌∷◌, drop, refl, sym, ap, ◌∙◌}
 use Rattle.std.specs.Prelude.{if◌then◌else◌}
 use Rattle.std.proofs.lemmas.Bool.{or_parts}

@@ -70,7 +70,7 @@ translated_all units out i skip odd end so_far =
 
 -- ---- the units lie in order
 
--- the byte behind so many units
+-- the byte after so many units
 pub after : ℕ → ℕ → List Unit → ℕ
 after zero from vs = from
 after (suc n) from [] = from

@@ -50,7 +50,7 @@ pub(crate) fn opens_block(units: &[Unit]) -> bool
 }
 
 /// The text block at the front, if it is closed.
-pub(crate) fn closed_block(units: &[Unit], mode: u8) -> Option<Found>
+pub(crate) fn closed_block(units: &[Unit], mode: u64) -> Option<Found>
     requires { length units.now < 2 ^ 32 }
     ensures { (at : ℕ) → Takes (table (text_blocks ∷ [])) at mode (characters units.now) result }
 {

@@ -31,7 +31,7 @@ fn is_end(units: &[Unit]) -> bool
 }
 
 // The element at the front, if nothing is opened.
-fn element(units: &[Unit], mode: u8) -> Option<Found>
+fn element(units: &[Unit], mode: u64) -> Option<Found>
     requires { length units.now < 2 ^ 32 }
     ensures { (at : ℕ) → Takes (table rows) at mode (characters units.now) result }
 {
@@ -44,7 +44,7 @@ fn element(units: &[Unit], mode: u8) -> Option<Found>
 }
 
 /// The element at the front, if there is no byte order mark.
-pub(crate) fn taken(units: &[Unit], mode: u8) -> Option<Found>
+pub(crate) fn taken(units: &[Unit], mode: u64) -> Option<Found>
     requires { length units.now < 2 ^ 32 }
     ensures { (at : ℕ) → Takes unmarked at mode (characters units.now) result }
 {

@@ -5,7 +5,7 @@ use Rattle.cq_io.specs.Causes.{Rose}
 use Rattle.cq_listen.specs.declared.listening.Served.{Served}
 
 -- By whether a call of the doors failed, with their count of faults before and now, and how many connections were to come
--- and are: the count rose; or it is as before, and no connection is to come, where the doors tell it.
+-- and are: the count rose; or it is as before, and no connection is to come, if the doors say so.
 abbrev pub HasEnded : ℕ → ℕ → Option ℕ → Option ℕ → Bool → Type 0
 HasEnded faults faults_now left left_now true = Rose faults faults_now
 HasEnded faults faults_now left left_now false =

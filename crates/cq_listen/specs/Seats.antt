@@ -1,5 +1,5 @@
 -- The passes with which sessions and workers begin, and those that their threads have.
-use Rattle.std.specs.Prelude.{◌≡◌, ℕ, None}
+use Rattle.std.specs.Prelude.{◌≡◌, ℕ, List, None, All}
 use Rattle.cq_base.specs.declared.settings.Settings.{Settings}
 use Rattle.cq_base.specs.Settings.{IsInRange}
 use Rattle.cq_cells.specs.Passes.{by_of}
@@ -23,3 +23,7 @@ pub record IsSeated {W R : Type 0} (set : Settings) (hub : Shared W R) (p : Boar
 pub record IsFurnished {W R : Type 0} (set : Settings) (hub : Shared W R) (p : BoardPass) (limit : ℕ) : Type 0 where
   pub seated : IsSeated set hub p
   pub limit_is : limit ≡ set.byte_limit
+
+-- each of them is of a hub with these settings
+abbrev pub AreSetTo : {T : Type 0} → (T → Settings) → Settings → List T → Type 0
+AreSetTo settings set xs = All (λ x. settings x ≡ set) xs

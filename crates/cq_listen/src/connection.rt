@@ -1,4 +1,4 @@
-/// A connection that came. It has no `Drop`: it is taken apart where it is served, and nowhere else.
+/// A connection that came. It has no `Drop`: only who serves it takes it apart.
 pub(crate) struct Connection<S, K> {
     pub source: S,
     pub sink: K,

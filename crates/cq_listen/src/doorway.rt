@@ -6,13 +6,13 @@ use cq_io::{Doors, Failed};
 /// Connections as they come. What was and what is between two of them stays known where a closure has it: a value of a type
 /// parameter keeps that, and a `&mut` doesn't.
 pub(crate) trait Arrivals<C> {
-    // from one moment to another, behind which there may be more
+    // from one moment to another, after which there may be more
     ghost Since: { Self → Self → Type 0 };
 
     // from one moment to the end
     ghost Ended: { Self → Self → Type 0 };
 
-    /// The next one; none where no more will come, and then it is not asked again.
+    /// The next one; none if no more will come, and then it is not asked again.
     fn next(&mut self) -> Option<C>
         requires since { (first : Self) × Since first self.old }
         ensures more { (first : Self) → Since first self.old

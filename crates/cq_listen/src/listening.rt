@@ -1,8 +1,8 @@
-ghost use Rattle.std.specs.Prelude.{◌≡◌, ◌+◌, ◌≤◌, vec_len, All, IsSome, IfOk, OnErr};
+ghost use Rattle.std.specs.Prelude.{◌≡◌, ◌+◌, ◌≤◌, vec_len, IsSome, IfOk, OnErr};
 ghost use Rattle.cq_base.specs.Settings.{IsInRange};
 ghost use Rattle.cq_shared.specs.SharedPasses.{settings_of};
 ghost use Rattle.cq_listen.specs.Endings.{HasEnded, IsServedWith};
-ghost use Rattle.cq_listen.specs.Seats.{IsIdle};
+ghost use Rattle.cq_listen.specs.Seats.{AreSetTo, IsIdle};
 
 use crate::benches::benches_of;
 use crate::connection::Connection;
@@ -71,8 +71,8 @@ fn serve_doors<
     queue: Queue<Connection<S, K>>,
     doors: &mut D,
 ) -> Served
-    requires workers { All (λ m. M.settings m ≡ keyer.now.settings) staff.workers.items }
-    requires attendants { All (λ n. N.settings n ≡ keyer.now.settings) staff.attendants.items }
+    requires workers { AreSetTo M.settings keyer.now.settings staff.workers.items }
+    requires attendants { AreSetTo N.settings keyer.now.settings staff.attendants.items }
     requires own { N.settings staff.own ≡ keyer.now.settings }
     requires bound { IsSome (D.bound doors.old) }
     ensures ended { HasEnded (D.faults doors.old) (D.faults doors.new)
@@ -107,10 +107,11 @@ fn serve_doors<
 /// Serves the connections that the doors give, each by a session over the hub, until no more will come or a call of the doors
 /// fails: then no further door is asked for, and the connections that came before are served to their ends. So many threads
 /// run the sessions, each one at a time, and so many workers make the works of accepted changes beside them. A connection's
-/// own fault ends its session alone. The gate is told what `session` and the workers' turns tell it, from their threads.
+/// own fault ends only its session. The gate is called from the threads of the sessions and the workers, as `session` and
+/// `turn` say.
 ///
-/// The calling thread alone asks the doors. It hands each connection over by a queue with as many places as there are
-/// sessions, and asks for the next one only where a place is free. So a client that sends nothing, or half a line, or never
+/// Only the calling thread asks the doors. It hands each connection over by a queue with as many places as there are
+/// sessions, and asks for the next one only if a place is free. So a client that sends nothing, or half a line, or never
 /// reads, keeps one thread, and nobody else. With no session, or if no thread can be made for one, the calling thread serves each
 /// connection itself before it asks for the next one; a worker for which none can be made doesn't work.
 ///

@@ -85,7 +85,7 @@ impl<C> Queue<C> {
         drop(waiting);
     }
 
-    /// Takes a place, for which it waits where none is free.
+    /// Takes a place, and waits for one if none is free.
     pub(crate) fn push<Q: Wait>(&self, rt: &Q, connection: C) {
         let mut waiting = self
             .freed
@@ -95,7 +95,7 @@ impl<C> Queue<C> {
         self.came.notify_one();
     }
 
-    /// The first one, for which it waits; none where nothing waits and the queue was closed.
+    /// The first one, for which it waits; none if nothing is left and the queue was closed.
     pub(crate) fn pop<Q: Wait>(&self, rt: &Q) -> Option<C> {
         let mut waiting = self
             .came

@@ -1,6 +1,7 @@
-ghost use Rattle.std.specs.Prelude.{◌≡◌, All};
+ghost use Rattle.std.specs.Prelude.{◌≡◌};
 ghost use Rattle.std.specs.Thread.{IsSync};
 ghost use Rattle.cq_base.specs.declared.settings.Settings.{Settings as Told};
+ghost use Rattle.cq_listen.specs.Seats.{AreSetTo};
 
 use crate::doorway::Arrivals;
 use crate::queue::Queue;
@@ -53,7 +54,7 @@ fn start_sessions<
     attendants: Vec<N>,
     queue: &'s Queue<C>,
 ) -> bool
-    requires { All (λ n. N.settings n ≡ keyer.now.settings) attendants.items }
+    requires { AreSetTo N.settings keyer.now.settings attendants.items }
 {
     let mut is_any = false;
     'attendants: for attendant in attendants {
@@ -70,7 +71,7 @@ fn start_sessions<
     is_any
 }
 
-// Hands over what comes, and asks for the next one only where there is a place for it.
+// Hands over what comes, and asks for the next one only if there is a place for it.
 fn hand_over<Q: Wait, C, A: Arrivals<C>>(rt: &Q, queue: &Queue<C>, arrivals: A) -> A
     requires { A.Since arrivals arrivals }
     ensures { A.Ended arrivals result }
@@ -109,7 +110,7 @@ fn serve_alone<Q: Threads + Wait + Sync, C, N: Attendant<C>, A: Arrivals<C>>(
     unreachable!()
 }
 
-// Serves what comes by other threads, or where there are none on this one.
+// Serves what comes by other threads, or on this one if there are none.
 fn serve_all<Q: Threads + Wait + Sync, C, N: Attendant<C>, A: Arrivals<C>>(
     rt: &Q,
     keyer: &Keyer,
@@ -130,15 +131,15 @@ fn serve_all<Q: Threads + Wait + Sync, C, N: Attendant<C>, A: Arrivals<C>>(
     }
 }
 
-/// Serves what comes, by a thread for each attendant, while one can be made, or where there is none on this one, by an
-/// attendant of its own, which it gives back. All that came is served behind it, and no thread of a session is left.
+/// Serves what comes by a thread for each attendant, while one can be made, or, if there is none, on this one by an attendant
+/// of its own, which it gives back. Afterwards all that came is served, and no thread of a session is left.
 pub(crate) fn serve_arrivals<
     Q: Threads + Wait + Sync,
     C: Send,
     N: Attendant<C> + Send + Drop,
     A: Arrivals<C> + Drop,
 >(rt: &Q, keyer: &Keyer, attendants: Vec<N>, own: N, queue: &Queue<C>, arrivals: A) -> (A, N)
-    requires attendants { All (λ n. N.settings n ≡ keyer.now.settings) attendants.items }
+    requires attendants { AreSetTo N.settings keyer.now.settings attendants.items }
     requires own { N.settings own ≡ keyer.now.settings }
     requires since { A.Since arrivals arrivals }
     ensures ended { A.Ended arrivals result.0 }
@@ -148,7 +149,7 @@ pub(crate) fn serve_arrivals<
         thread::scope_env(),
         rt,
         move |scope| -> (A, N)
-            requires { All (λ n. N.settings n ≡ keyer.now.settings) attendants.items
+            requires { AreSetTo N.settings keyer.now.settings attendants.items
                 × (N.settings own ≡ keyer.now.settings) × A.Since arrivals arrivals }
             ensures { A.Ended arrivals result.0 × (N.settings result.1 ≡ N.settings own) }
         {

@@ -1,5 +1,6 @@
-ghost use Rattle.std.specs.Prelude.{◌≡◌, All};
+ghost use Rattle.std.specs.Prelude.{◌≡◌};
 ghost use Rattle.cq_base.specs.declared.settings.Settings.{Settings as Told};
+ghost use Rattle.cq_listen.specs.Seats.{AreSetTo};
 
 use crate::doorway::Arrivals;
 use crate::queue::Queue;
@@ -28,7 +29,7 @@ fn start_workers<'s, E: 's, Q: Wait + Sync, M: Worker + Send + Drop + 's>(
     workers: Vec<M>,
     bell: &'s Bell,
 )
-    requires { All (λ m. M.settings m ≡ keyer.now.settings) workers.items }
+    requires { AreSetTo M.settings keyer.now.settings workers.items }
 {
     'workers: for worker in workers {
         let started = scope.spawn(
@@ -61,8 +62,8 @@ pub(crate) fn serve_beside_workers<
     N: Attendant<C> + Send + Drop,
     A: Arrivals<C> + Drop,
 >(rt: &Q, keyer: &Keyer, staff: Staff<'_, M, N>, queue: &Queue<C>, arrivals: A) -> (A, N)
-    requires workers { All (λ m. M.settings m ≡ keyer.now.settings) staff.workers.items }
-    requires attendants { All (λ n. N.settings n ≡ keyer.now.settings) staff.attendants.items }
+    requires workers { AreSetTo M.settings keyer.now.settings staff.workers.items }
+    requires attendants { AreSetTo N.settings keyer.now.settings staff.attendants.items }
     requires own { N.settings staff.own ≡ keyer.now.settings }
     requires since { A.Since arrivals arrivals }
     ensures ended { A.Ended arrivals result.0 }
@@ -78,8 +79,8 @@ pub(crate) fn serve_beside_workers<
         thread::scope_env(),
         rt,
         move |scope| -> (A, N)
-            requires { All (λ m. M.settings m ≡ keyer.now.settings) workers.items
-                × All (λ n. N.settings n ≡ keyer.now.settings) attendants.items
+            requires { AreSetTo M.settings keyer.now.settings workers.items
+                × AreSetTo N.settings keyer.now.settings attendants.items
                 × (N.settings own ≡ keyer.now.settings) × A.Since arrivals arrivals }
             ensures { A.Ended arrivals result.0 × (N.settings result.1 ≡ N.settings own) }
         {

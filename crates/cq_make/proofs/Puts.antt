@@ -59,7 +59,7 @@ no_cause set number file floor few low room =
     let not_long : nat_lt set.text_limit (kept_text_bytes (state_at puts 0) + length (text_of number file)) ≡ false = le-ltb set.text_limit (kept_text_bytes (state_at puts 0) + length (text_of number file)) (omega (arith, sum, bytes, here, room)) in
     none_higher set puts 0 floor (omega arith) (put_of number file) (ap₂ (λ full long. cond full (Some refused.FullChanges) (cond long (Some refused.FullText) None)) not_full not_long)
 
--- a cause other than want of memory
+-- a cause other than memory
 abbrev pub IsOther : Refused → Type 0
 IsOther refused.Memory = ⊥
 IsOther refused.Absent = Unit {0}

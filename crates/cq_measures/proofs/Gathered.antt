@@ -3,7 +3,7 @@ use Rattle.std.proofs.Common.{◌≡◌, ℕ, suc, ◌+◌, ◌-◌, ◌<◌, Bo
 use Rattle.std.proofs.lemmas.List.{append_assoc}
 use Rattle.std.specs.List.{range_with_len}
 
--- the first of the numbers that are left, and those behind it
+-- the first of the numbers that are left, and those after it
 range_front : (i n : ℕ) → i < n → range_with_len i (n - i) ≡ i ∷ range_with_len (i + 1) (n - (i + 1))
 range_front i n h = let e : n - i ≡ suc (n - (i + 1)) = omega arith in rw e refl
 

@@ -1,4 +1,4 @@
--- Lines of a file, one behind the other, and the lines that extents cover.
+-- Lines of a file, one after the other, and the lines that extents cover.
 use Rattle.std.proofs.Common.{◌≡◌, ℕ, zero, suc, ◌+◌, ◌-◌, Bool, true, false, ◌||◌, ◌&&◌, List, [], ◌∷◌, map, length, refl, sym, ap, ap₂, ◌∙◌, arith}
 use Rattle.std.specs.Prelude.{◌==◌, nat_lt, nat_le}
 use Rattle.std.specs.Cmp.{IsEquivalence}

@@ -20,7 +20,7 @@ use Rattle.cq_measures.specs.Sorted.{AreIn, AreBelow}
 abbrev run : ℕ → Place → Run
 run tokens p = record { at = p.at; tokens = tokens }
 
--- a place more of a group comes behind the runs of its file
+-- a place more of a group comes after the runs of its file
 one_more : (i tokens : ℕ) (places : List Place) (p : Place) → group_runs i tokens (places ++ p ∷ []) ≡ group_runs i tokens places ++ cond (p.file == i) (record { at = p.at; tokens = tokens } ∷ []) []
 one_more i tokens places p =
     ap (map (run tokens)) (filter-append (λ p. p.file == i) places (p ∷ []))

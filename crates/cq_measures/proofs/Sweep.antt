@@ -80,7 +80,7 @@ fresh file free e q = go (cases_Bool (e.file == file)) (cases_Bool (q.file == e.
     go (inr a) (inl b) c = grind arith
     go (inr a) (inr b) c = grind arith
 
--- Where an extent begins no later than the line, the line is new, or lies behind it, exactly if it isn't taken.
+-- Where an extent begins no later than the line, the line is new, or lies after it, exactly if it isn't taken.
 behind : (file free : ℕ) (e : Extent) (q : Line) → file ≤ e.file → (e.file < q.file) ⊎ ((e.file ≡ q.file) × (e.first ≤ q.number)) → (is_on e.file (first_new file free e) (e.last + 1 - first_new file free e) q || not (is_taken e.file (next_free file free e) q)) ≡ not (is_taken file free q)
 behind file free e q l (inl less) = grind arith
 behind file free e q l (inr same) = go (cases_Bool (e.file == file)) (cases_Bool (nat_lt e.first free)) (cases_Bool (nat_lt (e.last + 1) free)) (cases_Bool (nat_lt q.number (e.last + 1)))

@@ -11,7 +11,7 @@ use Rattle.cq_measures.specs.declared.extent.Extent.{Extent}
 use Rattle.cq_measures.specs.declared.extent.FileLines.{FileLines}
 use Rattle.cq_measures.specs.Extents.{covered_lines, different_extents, files_touched}
 
--- what is counted of each file, and where its tokens stand
+-- what is counted of each file, and where its tokens are
 abbrev pub counts_of : List FileLines → List FileCounts
 counts_of files = map (λ f. f.counts) files
 
@@ -35,7 +35,7 @@ group_extents spans g = map (extent_of spans g.tokens) g.places
 abbrev pub extents_of : List (List Token) → List Group → List Extent
 extents_of spans groups = flat_map (λ g. group_extents spans g) groups
 
--- duplicated lines of all lines, in hundredths of a percent, rounded down; 0 where there is no line
+-- duplicated lines of all lines, in hundredths of a percent, rounded down; 0 if there is no line
 abbrev pub density : ℕ → ℕ → ℕ
 density duplicated lines = if lines == 0 then 0 else 10000 * duplicated / lines
 
@@ -74,7 +74,7 @@ file_measures counts spans file groups =
 abbrev pub measures_of_project : List FileLines → List Group → Measures
 measures_of_project files groups = project_measures (counts_of files) (spans_of files) groups
 
--- the file with this number, where all files have these counts and spans
+-- the file with this number, if all files have these counts and spans
 abbrev pub IsFileAt : List FileCounts → List (List Token) → ℕ → FileLines → Type 0
 IsFileAt counts spans file f = (slice_index_or counts file no_counts ≡ f.counts) × (slice_index_or spans file [] ≡ f.spans.now)
 
@@ -94,14 +94,14 @@ is_in_chosen chosen e = list_any (nat_eq e.file) chosen
 abbrev pub chosen_extents : List ℕ → List (List Token) → List Group → List Extent
 chosen_extents chosen spans groups = filter (is_in_chosen chosen) (extents_of spans groups)
 
--- those of some of the files alone, with the places that groups of all files have in them
+-- those of only some of the files, with the places that groups of all files have in them
 abbrev pub chosen_measures : List FileCounts → List (List Token) → List ℕ → List Group → Measures
 chosen_measures counts spans chosen groups = measures_of (length chosen) (total (counts_at counts chosen)) (chosen_extents chosen spans groups)
 
 abbrev pub measures_of_chosen : List FileLines → List ℕ → List Group → Measures
 measures_of_chosen files chosen groups = chosen_measures (counts_of files) (spans_of files) chosen groups
 
--- the extent of a place, or of a group's places, stands behind others, where the file is chosen
+-- the extent of a place, or of a group's places, comes after others, if the file is chosen
 abbrev pub AddsPlace : List FileLines → List ℕ → ℕ → Place → List Extent → List Extent → Type 0
 AddsPlace files chosen n p old new = new ≡ old ++ filter (is_in_chosen chosen) (extent_of (spans_of files) n p ∷ [])
 
@@ -130,11 +130,11 @@ pub record IsMeasurable (counts : List FileCounts) (spans : List (List Token)) (
 
 -- ---- of a project whose groups lie inside its files
 
--- where all files are chosen, the measures are those of the project
+-- if all files are chosen, the measures are those of the project
 abbrev pub AllChosenAreTheProject : Type 0
 AllChosenAreTheProject = (counts : List FileCounts) (spans : List (List Token)) (groups : List Group) → length spans ≡ length counts → AreGroupsInside spans groups
     → chosen_measures counts spans (range_with_len 0 (length counts)) groups ≡ project_measures counts spans groups
 
--- where one file is chosen, they are those of that file
+-- if one file is chosen, they are those of that file
 abbrev pub OneChosenIsTheFile : Type 0
 OneChosenIsTheFile = (counts : List FileCounts) (spans : List (List Token)) (file : ℕ) (groups : List Group) → chosen_measures counts spans (file ∷ []) groups ≡ file_measures counts spans file groups

@@ -23,7 +23,7 @@ runs_in file groups = flat_map (λ g. group_runs file g.tokens g.places) groups
 abbrev pub part_at : List (Vec Run Global) → ℕ → List Run
 part_at parts i = slice_index_or (map (λ part. part.items) parts) i []
 
--- those of one more group stand behind the old ones
+-- those of one more group come after the old ones
 abbrev pub AddsRuns : ℕ → Group → List Run → List Run → Type 0
 AddsRuns file g old new = new ≡ old ++ group_runs file g.tokens g.places
 
@@ -32,12 +32,12 @@ pub record AreParted (files : ℕ) (groups : List Group) (parts : List (Vec Run 
   pub number_is : length parts ≡ files
   pub each : (i : ℕ) → i < files → part_at parts i ≡ runs_in i groups
 
--- each list has these more behind
+-- each list has these more at its end
 pub record AreLonger (more : ℕ → List Run) (old new : List (List Run)) : Type 0 where
   pub as_many : length new ≡ length old
   pub each : (i : ℕ) (d : List Run) → i < length old → slice_index_or new i d ≡ slice_index_or old i d ++ more i
 
--- the list of each file has the places of one more group in it behind
+-- the list of each file has the places of one more group in it at its end
 abbrev pub AddsGroup : Group → List (Vec Run Global) → List (Vec Run Global) → Type 0
 AddsGroup g old new = AreLonger (λ file. group_runs file g.tokens g.places) (map (λ part. part.items) old) (map (λ part. part.items) new)
 

@@ -34,7 +34,7 @@ taken file free e = if e.file == file then free else 0
 abbrev pub greater : ℕ → ℕ → ℕ
 greater a b = if nat_lt a b then b else a
 
--- the extent's first line that is new, and the first line behind it that is not taken
+-- the extent's first line that is new, and the first line after it that is not taken
 abbrev pub first_new : ℕ → ℕ → Extent → ℕ
 first_new file free e = greater e.first (taken file free e)
 

@@ -25,7 +25,7 @@ is_met_at m conditions i = unwrap_or (option_map (is_met m) (slice_get condition
 abbrev pub failed : Measures → List Condition → List ℕ
 failed m conditions = filter (is_met_at m conditions) (range_with_len 0 (length conditions))
 
--- an error with the positions that failed, where some did
+-- an error with the positions that failed, if some did
 abbrev pub verdict_at : List ℕ → Verdict
 verdict_at [] = verdict.Ok
 verdict_at (i ∷ is) = verdict.Error (i ∷ is)

@@ -110,7 +110,7 @@ fn code_extents(alloc: Global, tokens: &[Token]) -> Result<Vec<Extent>, Memory>
     Ok(extents)
 }
 
-// Lines of code, where no token that has bytes begins on a line before that of the one before it; else None.
+// Lines of code, if no token that has bytes begins on a line before that of the one before it; else None.
 fn lines_in_order(tokens: &[Token]) -> Option<u64>
     ensures count { IfSome result (λ n. n ≡ spec.code_lines tokens.now) }
     ensures within { IfSome result (λ n. n ≤ 2 ^ 32) }
@@ -134,7 +134,7 @@ fn lines_in_order(tokens: &[Token]) -> Option<u64>
 }
 
 /// Lines of code: how many lines lie from the first to the last line of a token that has bytes. It is one walk without
-/// memory where the tokens are in the order of the text; else their lines are sorted.
+/// memory if the tokens are in the order of the text; else their lines are sorted.
 pub fn ncloc(alloc: Global, tokens: &[Token]) -> Result<u64, Memory>
     ensures count { IfOk result (λ n. n ≡ spec.code_lines tokens.now) }
     ensures within { IfOk result (λ n. n ≤ 2 ^ 32) }

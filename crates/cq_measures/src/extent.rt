@@ -8,7 +8,7 @@ pub(crate) struct Extent {
     pub last: u32,
 }
 
-/// A file as it is measured: its counts, and where its tokens stand.
+/// A file as it is measured: its counts, and where its tokens are.
 #[derive(Clone, Copy)]
 pub struct FileLines<'a> {
     pub counts: FileCounts,

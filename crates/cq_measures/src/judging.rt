@@ -20,7 +20,7 @@ fn failed(alloc: Global, conditions: &[Condition], measures: &Measures) -> Resul
     Ok(failed)
 }
 
-/// OK where none of the conditions is met, and else the positions of those that are, from 0 and ascending.
+/// OK if none of the conditions is met, and else the positions of those that are, from 0 and ascending.
 pub fn verdict(
     alloc: Global,
     conditions: &[Condition],

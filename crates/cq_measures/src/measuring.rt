@@ -61,8 +61,8 @@ fn measures_of(files: u64, counts: FileCounts, tally: Tally) -> Measures
 }
 
 /// The measures of a project of these files, with the places that groups of their tokens have. The places are parted among
-/// the files in one walk, and each file's are counted by itself, in threads where they are many: the result is the same
-/// whatever their number. Want of memory in a thread is want of memory of the call.
+/// the files in one walk, and each file's are counted by itself, in threads if they are many: the result is the same
+/// whatever their number. If memory is refused in a thread, it is refused by the call.
 pub fn project_measures<R: Threads + Sync>(
     rt: &R,
     alloc: Global,
@@ -96,7 +96,7 @@ pub fn file_measures(
     Ok(measures_of(1, lines.counts, tally))
 }
 
-/// The measures of some of the files alone, which are told by their numbers, ascending, with the places that groups of all
+/// The measures of only some of the files, which are given by their numbers, ascending, with the places that groups of all
 /// files' tokens have in them. Nothing of the other files is looked at but the groups' places in them; of each place it is
 /// found by halving whether its file is chosen.
 pub fn chosen_measures(

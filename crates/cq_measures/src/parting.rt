@@ -22,7 +22,7 @@ fn empty(alloc: Global, files: usize) -> Result<Vec<Vec<Run>>, Memory>
     Ok(parts)
 }
 
-// Puts each place of a group behind those of its file.
+// Puts each place of a group after those of its file.
 fn part(group: &Group, parts: &mut Vec<Vec<Run>>) -> Result<(), Memory>
     requires { spec.ArePlacesBelow (length parts.old.items) group.now }
     ensures { OnOk result (spec.AddsGroup group.now parts.old.items parts.new.items) }
@@ -48,7 +48,7 @@ pub(crate) fn parted(alloc: Global, files: usize, groups: &[Group]) -> Result<Ve
     Ok(parts)
 }
 
-// Puts each place of a group that is in the file behind others.
+// Puts each place of a group that is in the file after others.
 fn add_runs(group: &Group, file: u32, runs: &mut Vec<Run>) -> Result<(), Memory>
     ensures { OnOk result (spec.AddsRuns file group.now runs.old.items runs.new.items) }
 {
@@ -74,7 +74,7 @@ pub(crate) fn runs_of(alloc: Global, file: u32, groups: &[Group]) -> Result<Vec<
     Ok(runs)
 }
 
-/// How many places the groups have, or `usize::MAX` where they are more.
+/// How many places the groups have, or `usize::MAX` if they are more.
 pub(crate) fn count_places(groups: &[Group]) -> usize {
     let mut places: usize = 0;
     for group in groups {

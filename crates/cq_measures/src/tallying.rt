@@ -14,7 +14,7 @@ use std::thread::Threads;
 // With how few places a thread of its own is worth its start.
 const LEAST_PLACES: usize = 4_096;
 
-/// With how few files a thread of its own is worth its start, where all of so many files have so many places. A project of
+/// With how few files a thread of its own is worth its start, if all of so many files have so many places. A project of
 /// few places starts none.
 pub(crate) fn least_files(files: usize, places: usize) -> usize {
     files.saturating_mul(LEAST_PLACES) / places.max(1)

@@ -67,17 +67,17 @@ swapped : (a b : Bool) → (a && b) ≡ false → (b && a) ≡ false
 swapped true b h = and_left b true h
 swapped false b h = and_right b false refl
 
--- the character closes it, behind the one before it
+-- the character closes it, after the one before it
 abbrev closes : List ℕ → ℕ → Bool
 closes text at = (get_or text (at + 1) 0 == 47) && (get_or text at 0 == 42)
 
--- where it doesn't, the comment is open behind it
+-- where it doesn't, the comment is open after it
 still_open : (text : List ℕ) (at : ℕ) → Open text at → at + 1 < length text → closes text at ≡ false → Open text (at + 1)
 still_open text at unclosed inside none =
     scanned_kept unclosed (get_or text (at + 1) 0) inside refl (EndsAtClose (get_or text (at + 1) 0 == 42))
     (no_close (get_or text at 0 == 42) (get_or text (at + 1) 0) (swapped (get_or text (at + 1) 0 == 47) (get_or text at 0 == 42) none)) (none_ends (get_or text (at + 1) 0 == 42))
 
--- up to this character it is not closed, which may be the first behind the text
+-- up to this character it is not closed, which may be the first after the text
 pub record IsOpenTo (text : List ℕ) (at : ℕ) : Type 0 where
   pub here : at < length text → Open text at
   pub nowhere : length text ≤ at → LongestAt IsBlockComment text None
@@ -116,7 +116,7 @@ opened_block text opens =
 pub not_opened_block : (text : List ℕ) → begins (47 ∷ 42 ∷ []) text ≡ false → LongestAt IsBlockComment text None
 not_opened_block text none = none_opens 42 (EndsAtClose false) text none
 
--- a star, and a slash behind it
+-- a star, and a slash after it
 closed : (text : List ℕ) (at : ℕ) → Open text at → at + 1 < length text → closes text at ≡ true → LongestAt IsBlockComment text (Some (at + 2))
 closed text at unclosed inside close =
     let both = and_parts (get_or text (at + 1) 0 == 47) (get_or text at 0 == 42) close in
@@ -126,7 +126,7 @@ closed text at unclosed inside close =
     let same : at + 1 + 1 ≡ at + 2 = omega arith in
     subst (λ n. LongestAt IsBlockComment text (Some n)) same (scanned_ended IsBlockComment (λ s. s ≡ []) text (at + 1 + 1) (Some (at + 1 + 1)) won (λ c s h. absurd (cc)))
 
--- ---- comments behind two slashes
+-- ---- comments after two slashes
 
 abbrev pub OneLine : LineEnds → List ℕ → ℕ → Type 0
 OneLine ends text at = Scanned (IsLineComment ends) (IsOneLine ends) text at (Some at)

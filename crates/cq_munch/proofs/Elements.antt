@@ -65,14 +65,13 @@ pub record SoFar (lang : Language) (bytes : List ℕ) (units : List Unit) (token
   pub tokens_are : tokens ≡ tokens_of bytes units 0 elements
   pub marks_are : marks ≡ marks_of units 0 elements
   pub inside : at ≤ length units
-  pub known : mode ≤ 3
   pub behind : InOrder end (drop at units) (length bytes)
   pub ordered : TokensFollow 0 tokens end
 
 pub none_so_far : (lang : Language) (bytes : List ℕ) (units : List Unit) → InOrder 0 units (length bytes) → SoFar lang bytes units [] [] 0 0 0
-none_so_far lang bytes units order = record { elements = []; follow = (refl, refl); tokens_are = refl; marks_are = refl; inside = zero-le; known = zero-le; behind = order; ordered = zero-le }
+none_so_far lang bytes units order = record { elements = []; follow = (refl, refl); tokens_are = refl; marks_are = refl; inside = zero-le; behind = order; ordered = zero-le }
 
--- elements behind elements
+-- elements after elements
 Follow-append : (lang : Language) (text : List ℕ) (a m : ℕ) (fs : List Found) (at mode : ℕ) (gs : List Found) (end last : ℕ) → Follow lang text a m fs at mode → Follow lang text at mode gs end last
     → Follow lang text a m (fs ++ gs) end last
 Follow-append lang text a m [] at mode gs end last h k = subst (λ v. Follow lang text v m gs end last) (sym h.0) (subst (λ v. Follow lang text at v gs end last) (sym h.1) k)
@@ -92,18 +91,16 @@ pub record Gone (lang : Language) (units : List Unit) (from there at mode : ℕ)
   pub elements : List Found
   pub follow : Follow lang (characters units) from there elements at mode
   pub inside : at ≤ length units
-  pub known : mode ≤ 3
 
-pub none_gone : (lang : Language) (units : List Unit) (at mode : ℕ) → at ≤ length units → mode ≤ 3 → Gone lang units at mode at mode
-none_gone lang units at mode inside known = record { elements = []; follow = (refl, refl); inside = inside; known = known }
+pub none_gone : (lang : Language) (units : List Unit) (at mode : ℕ) → at ≤ length units → Gone lang units at mode at mode
+none_gone lang units at mode inside = record { elements = []; follow = (refl, refl); inside = inside }
 
-pub one_gone : {lang : Language} {units : List Unit} {from there at mode : ℕ} → Gone lang units from there at mode → (f : Found) → Takes lang at mode (drop at (characters units)) (Some f) → at + f.units ≤ length units → f.mode ≤ 3
+pub one_gone : {lang : Language} {units : List Unit} {from there at mode : ℕ} → Gone lang units from there at mode → (f : Found) → Takes lang at mode (drop at (characters units)) (Some f) → at + f.units ≤ length units
     → Gone lang units from there (at + f.units) f.mode
-one_gone {lang} {units} {from} {there} {at} {mode} gone f takes inside known = record {
+one_gone {lang} {units} {from} {there} {at} {mode} gone f takes inside = record {
   elements = gone.elements ++ f ∷ [];
   follow = Follow-push lang (characters units) from there gone.elements at mode f gone.follow takes;
   inside = inside;
-  known = known;
 }
 
 -- all the text
@@ -112,7 +109,7 @@ all_gone {lang} {units} {from} {there} {at} {mode} gone end =
     let whole : at ≡ length units = omega (arith, gone.inside) in
     (gone.elements, mode, subst (λ v. Follow lang (characters units) from there gone.elements v mode) whole gone.follow)
 
--- a text with a fault behind its first tokens, or with too many
+-- a text with a fault after its first tokens, or with too many
 pub faulty : {lang : Language} {bytes : List ℕ} {units : List Unit} {tokens : List Spelled} {marks : List Mark} {at mode end : ℕ} → SoFar lang bytes units tokens marks at mode end → (byte : ℕ) → StopsFrom lang units at mode byte → EndsAt lang units byte
 faulty {lang} {bytes} {units} {tokens} {marks} {at} {mode} {end} so_far byte stops = record {
   elements = so_far.elements ++ stops.elements;
@@ -136,24 +133,23 @@ further at n units = drop-drop n at units ∙ ap (λ k. drop k units) (omega ari
 
 -- an element that is no token
 pub one_blank : {lang : Language} {bytes : List ℕ} {units : List Unit} {tokens : List Spelled} {marks : List Mark} {at mode end : ℕ} → SoFar lang bytes units tokens marks at mode end → (f : Found) → Takes lang at mode (drop at (characters units)) (Some f)
-    → at + f.units ≤ length units → f.mode ≤ 3 → tokens ≡ tokens ++ token_of bytes f.spell (take f.units (drop at units)) → (marked : List Mark) → marked ≡ marks ++ cons_option (mark_of f.spell (take (at + f.units - at) (drop at units))) []
+    → at + f.units ≤ length units → tokens ≡ tokens ++ token_of bytes f.spell (take f.units (drop at units)) → (marked : List Mark) → marked ≡ marks ++ cons_option (mark_of f.spell (take (at + f.units - at) (drop at units))) []
     → SoFar lang bytes units tokens marked (at + f.units) f.mode end
-one_blank {lang} {bytes} {units} {tokens} {marks} {at} {mode} {end} so_far f takes inside known none marked marked_is = record {
+one_blank {lang} {bytes} {units} {tokens} {marks} {at} {mode} {end} so_far f takes inside none marked marked_is = record {
   elements = so_far.elements ++ f ∷ [];
   follow = Follow-push lang (characters units) 0 0 so_far.elements at mode f so_far.follow takes;
   tokens_are = none ∙ ap (λ v. v ++ token_of bytes f.spell (take f.units (drop at units))) so_far.tokens_are ∙ sym (tokens-push lang (characters units) bytes units 0 0 so_far.elements at mode f so_far.follow);
   marks_are = marks-more lang (characters units) units so_far.elements at mode f marks marked so_far.follow so_far.marks_are marked_is;
   inside = inside;
-  known = known;
   behind = subst (λ us. InOrder end us (length bytes)) (further at f.units units) (InOrder-drop f.units end (drop at units) (length bytes) so_far.behind);
   ordered = so_far.ordered;
 }
 
 -- an element that is a token
 pub one_token : {lang : Language} {bytes : List ℕ} {units : List Unit} {tokens : List Spelled} {marks : List Mark} {at mode end : ℕ} → SoFar lang bytes units tokens marks at mode end → (f : Found) → Takes lang at mode (drop at (characters units)) (Some f)
-    → at + f.units ≤ length units → f.mode ≤ 3 → (class : Class) (s : Spelled) (more : List Spelled) → f.spell ≡ TokenOf class → s ≡ spelled_of bytes class (take (at + f.units - at) (drop at units)) → more ≡ tokens ++ s ∷ [] → (marked : List Mark) → marked ≡ marks ++ cons_option (mark_of f.spell (take (at + f.units - at) (drop at units))) []
+    → at + f.units ≤ length units → (class : Class) (s : Spelled) (more : List Spelled) → f.spell ≡ TokenOf class → s ≡ spelled_of bytes class (take (at + f.units - at) (drop at units)) → more ≡ tokens ++ s ∷ [] → (marked : List Mark) → marked ≡ marks ++ cons_option (mark_of f.spell (take (at + f.units - at) (drop at units))) []
     → SoFar lang bytes units more marked (at + f.units) f.mode (s.token.start + s.token.len)
-one_token {lang} {bytes} {units} {tokens} {marks} {at} {mode} {end} so_far f takes inside known class s more spell s_is more_is marked marked_is =
+one_token {lang} {bytes} {units} {tokens} {marks} {at} {mode} {end} so_far f takes inside class s more spell s_is more_is marked marked_is =
     let n : at + f.units - at ≡ f.units = omega arith in
     let here : List Unit = take f.units (drop at units) in
     let is : s ≡ spelled_of bytes class here = s_is ∙ ap (λ k. spelled_of bytes class (take k (drop at units))) n in
@@ -172,7 +168,6 @@ one_token {lang} {bytes} {units} {tokens} {marks} {at} {mode} {end} so_far f tak
           ∙ ap (λ v. v ++ token_of bytes f.spell here) so_far.tokens_are ∙ sym (tokens-push lang (characters units) bytes units 0 0 so_far.elements at mode f so_far.follow);
       marks_are = marks-more lang (characters units) units so_far.elements at mode f marks marked so_far.follow so_far.marks_are marked_is;
       inside = inside;
-      known = known;
       behind = subst (λ us. InOrder (s.token.start + s.token.len) us (length bytes)) (further at f.units units)
           (subst (λ e. InOrder e (drop f.units (drop at units)) (length bytes)) (sym reaches) (InOrder-behind f.units end (drop at units) (length bytes) some left so_far.behind));
       ordered = subst (λ ts. TokensFollow 0 ts (s.token.start + s.token.len)) (sym more_is) (TokensFollow-push 0 tokens end (s.token.start + s.token.len) s so_far.ordered (omega (arith, start_is, ends.0)) (omega (arith, len_is, ends.1)) refl);

@@ -14,7 +14,7 @@ module _ (set : List ℕ → Type 0) (text : List ℕ) (i : ℕ) (inside : i ≤
   front_is : (m : ℕ) → m ≤ i → take m (take i text) ≡ take m text
   front_is m h = take-take m i text h
 
-  -- no spelling ends behind i, so the longest of the front is the longest of all
+  -- no spelling ends after i, so the longest of the front is the longest of all
   pub stopped : (found : Option ℕ) → LongestAt set (take i text) found → ((m : ℕ) → i < m → m ≤ length text → set (take m text) → ⊥) → LongestAt set text found
   stopped None h none = λ m some within spelled.
       ⊎_elim
@@ -37,7 +37,7 @@ module _ (set : List ℕ → Type 0) (text : List ℕ) (i : ℕ) (inside : i ≤
   longer_front : i < length text → length (take (i + 1) text) ≡ i + 1
   longer_front h = length-take-le (i + 1) text (omega arith)
 
-  -- a spelling that ends behind character i is the longest so far
+  -- a spelling that ends after character i is the longest so far
   pub won : i < length text → set (take (i + 1) text) → LongestAt set (take (i + 1) text) (Some (i + 1))
   won h spelled = record {
     some = omega arith;
@@ -72,7 +72,7 @@ module _ {set rest : List ℕ → Type 0} {text : List ℕ} {i : ℕ} {found : O
       λ h. subst set (sym (regrouped s)) ((so_far.goes (c ∷ s)).1 ((next s).1 h)),
     )
 
-    -- a spelling ends behind c
+    -- a spelling ends after c
     pub scanned_won : rest' [] → Scanned set rest' text (i + 1) (Some (i + 1))
     scanned_won ends = record {
       goes = still_goes;

@@ -1,6 +1,5 @@
 -- The element of a table, from the longest spellings of its rows.
 use Rattle.std.proofs.Common.{subst, ap, ◌≡◌, ℕ, ◌<◌, ◌≤◌, Option, Some, None, Bool, true, false, cond, ltb, List, [], ◌∷◌, inl, inr, ⊎_elim, length, take, refl, sym, ◌∙◌, arith}
-use Rattle.std.specs.Prelude.{IfSome}
 use Rattle.std.proofs.lemmas.Bool.{ltb-true, ltb-false, MatchBool-at_true, MatchBool-at_false}
 use Rattle.cq_base.proofs.Bools.{MatchBool-from_true, MatchBool-from_false}
 use Rattle.cq_munch.specs.Longest.{IsLongest, LongestAt}
@@ -8,7 +7,7 @@ use Rattle.cq_munch.specs.declared.element.Found.{Found}
 use Rattle.cq_munch.specs.declared.element.Spell.{Spell}
 use Rattle.cq_munch.specs.Language.{Language, Takes}
 use Rattle.cq_munch.specs.Commented.{blocks, lines, opens_block, opens_line, commented}
-use Rattle.cq_munch.specs.Table.{Row, InTable, table, first, better, found_of, begins}
+use Rattle.cq_munch.specs.Table.{Row, InTable, table, moded, first, better, found_of, begins}
 use Rattle.cq_munch.specs.declared.ends.LineEnds.{LineEnds}
 
 -- what one language takes, another takes that has it, and nothing longer
@@ -107,8 +106,14 @@ better_none (Some f) = refl
 pub one_row_taken : (at mode : ℕ) (text : List ℕ) (row : Row) (len : Option ℕ) (own : Option Found) → own ≡ found_of row.spell mode len → LongestAt row.set text len → Takes (table (row ∷ [])) at mode text own
 one_row_taken at mode text row len own is h = row_more at mode text row [] len own None own is (sym (better_none own)) h (no_rows at mode text)
 
--- an element of a language that keeps the mode keeps it
-pub mode_kept : (lang : Language) (at mode : ℕ) (text : List ℕ) (r : Option Found) → ((spell : Spell) (s : List ℕ) → lang.mode_behind mode spell s ≡ mode) → mode ≤ 3 → Takes lang at mode text r → IfSome r (λ f. f.mode ≤ 3)
-mode_kept lang at mode text None same known taken = tt
-mode_kept lang at mode text (Some f) same known taken =
-    let e : f.mode ≡ mode = taken.2 ∙ same f.spell (take f.units text) in omega (arith, e, known)
+-- an element, with the mode after it
+pub with_mode : (behind : ℕ → Spell → List ℕ → ℕ) (lang : Language) (at mode : ℕ) (text : List ℕ) (f : Found) (next : ℕ) → Takes lang at mode text (Some f) → next ≡ behind mode f.spell (take f.units text)
+    → Takes (moded behind lang) at mode text (Some (record { spell = f.spell; units = f.units; mode = next }))
+with_mode behind lang at mode text f next h is = (
+  record { some = h.0.some; within = h.0.within; spelled = h.0.spelled; longest = h.0.longest },
+  h.1,
+  is,
+)
+
+pub without : (behind : ℕ → Spell → List ℕ → ℕ) (lang : Language) (at mode : ℕ) (text : List ℕ) → Takes lang at mode text None → Takes (moded behind lang) at mode text None
+without behind lang at mode text h = h

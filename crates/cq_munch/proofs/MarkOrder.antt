@@ -1,4 +1,4 @@
--- The marks of elements that stand one behind the other are in order.
+-- The marks of elements that stand one after the other are in order.
 use Rattle.std.proofs.Common.{◌≡◌, ℕ, zero, suc, ◌+◌, ◌<◌, ◌≤◌, Bool, Option, Some, None, option_map, List, [], ◌∷◌, length, take, drop, get_or, sym, subst, arith, length-drop, length-take-le}
 use Rattle.std.proofs.lemmas.List.{length-map}
 use Rattle.std.specs.List.{cons_option}
@@ -15,7 +15,7 @@ use Rattle.cq_munch.specs.ListingMarks.{said}
 use Rattle.cq_munch.proofs.Elements.{further}
 use Rattle.cq_munch.proofs.Orders.{InOrder-take, InOrder-ends, InOrder-behind}
 
--- the first begins at a byte or behind it, and no other before the one that it follows
+-- the first begins at a byte or after it, and no other before the one that it follows
 abbrev Rise : ℕ → List Mark → Type 0
 Rise from [] = ⊤
 Rise from (m ∷ marks) = (from ≤ m.at) × Rise m.at marks

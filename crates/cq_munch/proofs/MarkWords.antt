@@ -49,7 +49,7 @@ said_more text i last inside so_far =
     ∙ or_assoc (said (drop (i + 1) text)) (said_at (get_or text i 0 ∷ drop (i + 1) text)) last
     ∙ ap (λ cs. option_or (said (drop (i + 1) text)) (option_or (said_at cs) last)) (sym more)
 
--- the walk goes on behind a unit
+-- the walk goes on after a unit
 pub said_step : (units : List Unit) (i : ℕ) (last next : Option Bool) → i < length units → said (characters units) ≡ option_or (said (drop i (characters units))) last → next ≡ option_or (said_at (characters (take (length units - i) (drop i units)))) last
     → said (characters units) ≡ option_or (said (drop (i + 1) (characters units))) next
 said_step units i last next inside so_far next_is =

@@ -34,9 +34,12 @@ by_test false P Q a b p q h k = q h k
 pub of_table : (rows : List Row) → OneKind rows → HasOneKind (table rows)
 of_table rows one at mode text s a b h k = one s a b h k
 
+pub of_first_rows : (test : ℕ → ℕ → List ℕ → Bool) (rows : List Row) (lang : Language) → OneKind rows → HasOneKind lang → HasOneKind (first test rows lang)
+of_first_rows test rows lang own one at mode text s a b h k =
+    by_test (test at mode text) (λ x. InTable rows x s) (λ x. lang.tried at mode text x s) a b (own s a b) (one at mode text s a b) h k
+
 pub of_first : (test : ℕ → ℕ → List ℕ → Bool) (row : Row) (lang : Language) → HasOneKind lang → HasOneKind (first test (row ∷ []) lang)
-of_first test row lang one at mode text s a b h k =
-    by_test (test at mode text) (λ x. InTable (row ∷ []) x s) (λ x. lang.tried at mode text x s) a b (one_row row s a b) (one at mode text s a b) h k
+of_first test row lang one = of_first_rows test (row ∷ []) lang (one_row row) one
 
 pub of_marked : (lang : Language) → HasOneKind lang → HasOneKind (marked lang)
 of_marked lang one at mode text s a b h k =

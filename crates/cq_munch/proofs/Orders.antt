@@ -1,4 +1,4 @@
--- Units one behind the other.
+-- Units one after the other.
 use Rattle.std.proofs.Common.{◌≡◌, ℕ, zero, suc, ◌+◌, ◌-◌, ◌<◌, ◌≤◌, List, [], ◌∷◌, length, take, drop, sym, ap, subst, arith}
 use Rattle.cq_munch.specs.declared.unit.Unit.{Unit}
 use Rattle.cq_munch.specs.Lexed.{InOrder, unit_at, end_of}
@@ -47,7 +47,7 @@ InOrder-tight from (u ∷ v ∷ units) to order some = (
       (InOrder-from (u.start + u.len) v.start (v ∷ units) (end_of (v ∷ units)) order.2.0 (InOrder-tight (u.start + u.len) (v ∷ units) to order.2 (omega arith))),
 )
 
--- the first starts behind `from` and before the end of the last, which is within
+-- the first starts after `from` and before the end of the last, which is within
 pub InOrder-ends : (from : ℕ) (units : List Unit) (to : ℕ) → InOrder from units to → 0 < length units
     → (from ≤ (unit_at units 0).start) × ((unit_at units 0).start < end_of units) × (end_of units ≤ to)
 InOrder-ends from [] to order some = absurd (omega arith)
@@ -57,7 +57,7 @@ InOrder-ends from (u ∷ v ∷ units) to order some =
     let same = end-cons u v units in
     (order.0, omega (arith, same, rest.0, rest.1, order.1), omega (arith, same, rest.2))
 
--- what is left starts behind the end of what was taken
+-- what is left starts after the end of what was taken
 pub InOrder-behind : (n from : ℕ) (units : List Unit) (to : ℕ) → 0 < n → n ≤ length units → InOrder from units to → InOrder (end_of (take n units)) (drop n units) to
 InOrder-behind zero from units to some within order = absurd (omega arith)
 InOrder-behind (suc n) from [] to some within order = absurd (omega arith)

@@ -87,7 +87,7 @@ listed-among rows n s words found item is =
     let tells = has-among (words_in_row rows n) s in
     (λ h. tells.0 (sym same ∙ h), λ among. same ∙ tells.1 among)
 
--- behind the last row there are none
+-- after the last row there are none
 pub listed-nowhere : (rows : List (Bor (List (Bor (List ℕ))))) (n : ℕ) (s : List ℕ) → length rows ≤ n → (false ≡ true) ↔ IsAmong (words_in_row rows n) s
 listed-nowhere rows n s past =
     let bytes_of : Bor (List (Bor (List ℕ))) → List (List ℕ) = λ row. map (λ (w : Bor (List ℕ)). w.now) row.now in

@@ -106,7 +106,7 @@ parts_cases p c s step (part ∷ parts) e each =
     (λ cut. each-if (behind c p) (many p) s cut.0 (concat parts) cut.2 (step cut.0 (subst (Spells p) cut.1 each.0)) (parts, refl, each.1))
     (cut_cases c s part (concat parts) e)
 
--- what begins with c in p stands behind c
+-- what begins with c in p comes after c
 pub behind-if : (p : Pattern) (c : ℕ) (s : List ℕ) → Spells p (c ∷ s) → SpellsAny (behind c p) s
 behind-if never c s h = absurd h
 behind-if empty c s h = absurd (cc)
@@ -132,7 +132,7 @@ behind-if (p ∣ q) c s h =
     ⊎_elim (λ a. any_left _ _ s (behind-if p c s a)) (λ b. any_right (behind c p) _ s (behind-if q c s b)) h
 behind-if (many p) c s h = parts_cases p c s (behind-if p c) h.0 h.1 h.2
 
--- what is chosen by a test stands behind a true one
+-- what is chosen by a test comes after a true one
 chosen : (v : Bool) (ps : List Pattern) (s : List ℕ) → SpellsAny (cond v ps []) s → (v ≡ true) × SpellsAny ps s
 chosen true ps s h = (refl, h)
 chosen false ps s h = absurd h
@@ -176,7 +176,7 @@ pub any_takes_empty-if : (ps : List Pattern) → SpellsAny ps [] → any_takes_e
 any_takes_empty-if [] h = absurd h
 any_takes_empty-if (p ∷ ps) h = ⊎_elim (λ a. or_left _ _ (takes_empty-if p a)) (λ b. or_right _ _ (any_takes_empty-if ps b)) h
 
--- what may stand behind a word, and that the word is spelled where nothing may
+-- what may come after a word, and that the word is spelled where nothing may
 abbrev pub behind_word : List ℕ → List Pattern → List Pattern
 behind_word [] ps = ps
 behind_word (c ∷ w) ps = behind_word w (behind_each c ps)
@@ -234,7 +234,7 @@ covers-spells (p ∷ ps) qs h s k =
     let both = and_parts _ _ h in
     ⊎_elim (λ a. has-spells qs p s both.0 a) (λ b. covers-spells ps qs both.1 s b) k
 
--- characters that no class tells apart have the same behind them
+-- characters that no class tells apart have the same after them
 agree-behind : (c d : ℕ) (p : Pattern) → agree c d p ≡ true → behind c p ≡ behind d p
 agree-behind c d never h = refl
 agree-behind c d empty h = refl

@@ -1,4 +1,4 @@
--- A table of one row whose scan need not be begun again: where it finds no end, no spelling begins at a character that it read.
+-- A table of one row whose scan need not be begun again: if it finds no end, no spelling begins at a character that it read.
 use Rattle.std.specs.Prelude.{◌≡◌, ℕ, suc, ◌-◌, ◌<◌, ◌≤◌, ◌==◌, ◌&&◌, ◌||◌, not, nat_le, Bool, true, None, List, [], ◌∷◌, length, drop, slice_index_or}
 use Rattle.std.specs.List.{list_all}
 use Rattle.cq_munch.specs.Automata.{Tables, fits}

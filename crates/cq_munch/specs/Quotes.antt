@@ -9,6 +9,7 @@ use Rattle.cq_munch.specs.declared.quoted.Quote.TheVariants as quotes
 abbrev pub line_ends : LineEnds → List Range
 line_ends ends.Feed = (10, 10) ∷ []
 line_ends ends.ReturnOrFeed = (13, 13) ∷ (10, 10) ∷ []
+line_ends ends.Separator = (13, 13) ∷ (10, 10) ∷ (8232, 8233) ∷ []
 
 -- one character but the quote, a backslash and a line end, or a backslash with any next one but a line end
 abbrev pub item : ℕ → LineEnds → Pattern

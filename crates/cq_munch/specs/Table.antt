@@ -17,6 +17,10 @@ InTable (row ∷ rows) spell s = ((spell ≡ row.spell) × row.set s) ⊎ InTabl
 abbrev pub table : List Row → Language
 table rows = record { tried = λ at mode text spell s. InTable rows spell s; mode_behind = λ mode spell s. mode }
 
+-- the same rows, with the mode after an element
+abbrev pub moded : (ℕ → Spell → List ℕ → ℕ) → Language → Language
+moded behind lang = record { tried = lang.tried; mode_behind = behind }
+
 -- If the test passes, at a unit, in a mode, before a text, only these rows are tried.
 abbrev pub first : (ℕ → ℕ → List ℕ → Bool) → List Row → Language → Language
 first test rows lang = record {

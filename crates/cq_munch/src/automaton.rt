@@ -122,7 +122,7 @@ fn longest_row<S: StandIn>(by: Automaton<'_>, units: &[Unit]) -> Option<(usize, 
 pub fn longest_found<S: StandIn>(
     by: Automaton<'_>,
     spells: &[Spell],
-    mode: u8,
+    mode: u64,
     units: &[Unit],
 ) -> Option<Found>
     requires { length units.now < 2 ^ 32 }

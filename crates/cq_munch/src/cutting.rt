@@ -23,10 +23,9 @@ pub(crate) enum Cut {
 }
 
 // The byte where nothing is taken, if there is one from a unit on.
-fn fault_from<X: Lexis>(lexis: X, units: &[Unit], at: usize, mode: u8) -> Option<u32>
+fn fault_from<X: Lexis>(lexis: X, units: &[Unit], at: usize, mode: u64) -> Option<u32>
     requires inside { at ≤ length units.now }
     requires short { length units.now < 2 ^ 32 }
-    requires known { mode ≤ 3 }
     requires remembered { X.is_true_of lexis (characters units.now) }
     ensures fault { IfSome result (StopsFrom X.language units.now at mode) }
     ensures none { IfNone result (GoesToEnd X.language units.now at mode) }

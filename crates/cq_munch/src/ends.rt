@@ -8,6 +8,8 @@ pub enum LineEnds {
     Feed,
     /// A carriage return, or a line feed.
     ReturnOrFeed,
+    /// One of these, or a line or paragraph separator (U+2028, U+2029).
+    Separator,
 }
 
 pub(crate) fn ends_line(ends: LineEnds, ch: char) -> bool
@@ -16,5 +18,6 @@ pub(crate) fn ends_line(ends: LineEnds, ch: char) -> bool
     match ends {
         LineEnds::Feed => ch == '\n',
         LineEnds::ReturnOrFeed => ch == '\r' || ch == '\n',
+        LineEnds::Separator => { ch == '\r' || ch == '\n' || ch == '\u{2028}' || ch == '\u{2029}' }
     }
 }

@@ -1,4 +1,4 @@
-ghost use Rattle.std.specs.Prelude.{◌≡◌, ℕ, ◌^◌, ◌<◌, ◌≤◌, Result, List, length, drop, IfOk, IfSome, IsUtf8};
+ghost use Rattle.std.specs.Prelude.{◌≡◌, ℕ, ◌^◌, ◌<◌, ◌≤◌, Result, List, length, drop, IfOk, IsUtf8};
 ghost use Rattle.cq_base.specs.declared.token.Spelled.{Spelled};
 ghost use Rattle.cq_munch.specs.declared.unit.Unit.{Unit};
 ghost use Rattle.cq_munch.specs.Language.{Language, Takes, HasOneKind};
@@ -46,13 +46,11 @@ pub trait Lexis: Copy {
         ensures { (text : List ℕ) → is_true_of result text };
 
     /// The element at a unit, in a mode; None exactly if the tables allow none. It takes no memory.
-    fn longest(&mut self, units: &[Unit], at: u32, mode: u8) -> Option<Found>
+    fn longest(&mut self, units: &[Unit], at: u32, mode: u64) -> Option<Found>
         requires inside { at < length units.now }
         requires short { length units.now < 2 ^ 32 }
-        requires known { mode ≤ 3 }
         requires remembered { is_true_of self.old (characters units.now) }
         ensures taken { Takes language at mode (drop at (characters units.now)) result }
-        ensures known { IfSome result (λ found. found.mode ≤ 3) }
         ensures remembered { is_true_of self.new (characters units.now) };
 
     /// The tokens of a text with those that the language inserts.

@@ -61,12 +61,12 @@ fn plain_name(kinds: &[u8; 128], units: &[Unit]) -> Option<usize>
     Some(units.len())
 }
 
-// The element at the front, before reserved words are told from other names.
+// The element at the front, before reserved words are separated from other names.
 fn row_found<S: StandIn>(
     by: Automaton<'_>,
     kinds: &[u8; 128],
     spells: &[Spell],
-    mode: u8,
+    mode: u64,
     units: &[Unit],
 ) -> Option<Found>
     requires { length units.now < 2 ^ 32 }
@@ -107,7 +107,7 @@ pub fn named_found<S: StandIn>(
     kinds: &[u8; 128],
     spells: &[Spell],
     reserved: &[&[&[u8]]],
-    mode: u8,
+    mode: u64,
     units: &[Unit],
 ) -> Option<Found>
     requires { length units.now < 2 ^ 32 }

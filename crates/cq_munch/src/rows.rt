@@ -15,7 +15,7 @@ pub fn better(a: Option<Found>, b: Option<Found>) -> Option<Found>
 }
 
 /// The element of a row.
-pub fn found_of(spell: Spell, mode: u8, len: Option<usize>) -> Option<Found>
+pub fn found_of(spell: Spell, mode: u64, len: Option<usize>) -> Option<Found>
     requires { IfSome len (λ n. n < 2 ^ 32) }
     ensures { result ≡ found_of spell mode len }
 {

@@ -31,6 +31,8 @@ punctuation-short lang.Any text = omega arith
 punctuation-short lang.Go text = omega arith
 punctuation-short lang.C text = undigraphed-short text
 punctuation-short lang.Java text = omega arith
+punctuation-short lang.Js text = omega arith
+punctuation-short lang.Ts text = omega arith
 
 ignored-short : (ignored : Bool) (text : List ℕ) → length (unless_ignored ignored text) ≤ length text
 ignored-short true text = omega arith

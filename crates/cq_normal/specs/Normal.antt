@@ -25,6 +25,8 @@ punctuation lang.Any text = text
 punctuation lang.Go text = text
 punctuation lang.C text = undigraphed text
 punctuation lang.Java text = text
+punctuation lang.Js text = text
+punctuation lang.Ts text = text
 
 -- no spelling if the class is ignored
 abbrev pub unless_ignored : Bool → List ℕ → List ℕ

@@ -43,7 +43,7 @@ fn punctuation(alloc: Global, lang: Lang, text: Text) -> Result<Text, Memory>
 {
     match lang {
         Lang::C => undigraphed(alloc, text),
-        Lang::Any | Lang::Go | Lang::Java => Ok(text),
+        Lang::Any | Lang::Go | Lang::Java | Lang::Js | Lang::Ts => Ok(text),
     }
 }
 

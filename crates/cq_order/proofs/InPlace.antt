@@ -37,7 +37,7 @@ module _ {X : Type 0} (f : X → X) where
   pub in_place_all : (old xs : List X) (i : ℕ) → length old ≡ i → xs ≡ map f (take i old) ++ drop i old → xs ≡ map f old
   in_place_all old xs i e is = is ∙ all_changed old i e
 
-  -- all but one that was put behind
+  -- all but one that was put at the end
   pub in_place_push : (old xs : List X) (n : ℕ) (x : X) → n ≡ length old → xs ≡ old ++ x ∷ [] → map f (take n xs) ++ drop n xs ≡ map f old ++ x ∷ []
   in_place_push old xs n x e is = ap₂ (λ m ys. map f (take m ys) ++ drop m ys) e is ∙ go old
     where

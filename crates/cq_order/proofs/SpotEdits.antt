@@ -83,7 +83,7 @@ single s t there = ⊎_elim (λ e. e) (λ none. absurd (Contains-nil t none)) (C
 one_spot : (s : Spot) → AllPairs SpotBefore (s ∷ [])
 one_spot s i j d lt within = absurd (omega (arith, lt, within))
 
--- the latest change behind those that stay
+-- the latest change after those that stay
 spots_with : (changes : List ℕ) (kept : List Spot) (s : Spot) → AllPairs SpotBefore kept → ((t : Spot) → Contains kept t → t.change < s.change) → ((t : Spot) → (slice_get changes t.file ≡ Some t.change) ↔ (Contains kept t ⊎ (s ≡ t))) → AreSpots changes (kept ++ s ∷ [])
 spots_with changes kept s rising latest each =
     spots_from changes (kept ++ s ∷ [])
@@ -175,7 +175,7 @@ inserts len s old low changes are size latest =
         let was : slice_get changes u.file ≡ Some t.change = sym (got_behind changes s.file u.file s.change high within) ∙ ap (slice_get (insert changes s.file s.change)) up ∙ put in
         subst (Contains (map (moved_by (opened s.file)) old)) (same_spot (moved_by (opened s.file) u) t refl (open_high s.file u high ∙ up)) (Contains-map (moved_by (opened s.file)) old u ((spot_each changes old are u).1 was))
 
--- behind all others nothing moves
+-- after all others nothing moves
 none_moved : (at : ℕ) (spots : List Spot) → ((t : Spot) → Contains spots t → t.file < at) → map (moved_by (opened at)) spots ≡ spots
 none_moved at [] below = refl
 none_moved at (t ∷ spots) below =

@@ -57,7 +57,7 @@ paired (change ∷ changes) (file ∷ files) = record { change = change; file = 
 abbrev pub changes_of : List Spot → List ℕ
 changes_of spots = map (λ (s : Spot). s.change) spots
 
--- ---- the spots where one file is edited, whatever the numbers of the files' changes are
+-- ---- the spots if one file is edited, whatever the numbers of the files' changes are
 
 -- the spot's change, which is the latest, takes the place of this one
 abbrev pub Replaces : ℕ → Spot → List Spot → List Spot → Type 0

@@ -66,7 +66,7 @@ fn is_key_of(alloc: Global, settings: &Settings, window: &[Norm], key: u64) -> R
     Ok(calls == 1 && alone.as_slice() == [key].as_slice())
 }
 
-// How many keys these tokens have, how often the closure was called, and whether each key is that of its window alone.
+// How many keys these tokens have, how often the closure was called, and whether each key is that of only its window.
 fn outcome(
     alloc: Global,
     chunk: u32,

@@ -145,7 +145,7 @@ record Written (L : Type 0) (set : Settings) (project input output : List ℕ) :
   is : IsOfChanges set changes project snapshot
   is_file : IsTokenFile set snapshot output
 
--- `ask`: the input begins with a token file, and the output is the replies to the lines behind it
+-- `ask`: the input begins with a token file, and the output is the replies to the lines after it
 record Read (L : Type 0) (set : Settings) (input output : List ℕ) : Type 0 where
   snapshot : Snapshot L
   file : List ℕ

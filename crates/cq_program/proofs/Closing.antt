@@ -1,4 +1,4 @@
--- Lines behind bytes that a line feed ends.
+-- Lines after bytes that a line feed ends.
 use Rattle.std.proofs.Common.{◌≡◌, ℕ, Bool, true, false, eqb, List, [], ◌∷◌, ◌++◌, refl, sym, ap, ◌∙◌, inl, inr, append_assoc}
 use Rattle.std.proofs.lemmas.List.{append-nil}
 use Rattle.cq_lines.specs.Pieces.{ended, split, all_lines, last_line}
@@ -53,7 +53,7 @@ lines_none : (more : List ℕ) → all_lines more ≡ all_lines [] ++ all_lines 
 unfolding split
 lines_none more = refl
 
--- the lines of both are theirs and then those behind
+-- the lines of both are theirs and then those that follow
 pub lines_behind : (bytes more : List ℕ) → IsWhole bytes → all_lines (bytes ++ more) ≡ all_lines bytes ++ all_lines more
 lines_behind bytes more (inl none) = ap (λ (xs : List ℕ). all_lines (xs ++ more)) none ∙ lines_none more ∙ ap (λ (xs : List ℕ). all_lines xs ++ all_lines more) (sym none)
 lines_behind bytes more (inr closed) = ap (λ (xs : List ℕ). all_lines (xs ++ more)) closed.1 ∙ lines_closed closed.0 more ∙ ap (λ (xs : List ℕ). all_lines xs ++ all_lines more) (sym closed.1)

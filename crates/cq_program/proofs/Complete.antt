@@ -79,7 +79,7 @@ listens_complete address bound_now left left_now doors doors_now ended.LineRefus
 listens_complete address bound_now left left_now doors doors_now ended.FileRefused listened quiet other = absurd listened
 listens_complete address bound_now left left_now doors doors_now ended.TooLarge listened quiet other = absurd listened
 
--- what is left behind some bytes is fewer than they were with it
+-- what is left after some bytes is fewer than they were with it
 fewer_of : (limit : ℕ) (bytes : List ℕ) (behind : Option (List ℕ)) (file : List ℕ) → Consumes (Some bytes) behind file → length bytes < limit → HasFewer limit behind
 fewer_of limit bytes None file none fewer = absurd none
 fewer_of limit bytes (Some left) file same fewer = (left, refl, omega (arith, ap length same, length-append file left, fewer))

@@ -5,7 +5,7 @@ use Rattle.cq_base.specs.declared.settings.Settings.{Settings}
 use Rattle.cq_io.specs.declared.source.Source as source
 use Rattle.cq_tokask.specs.Kept.{TakesNoLine}
 
--- behind nothing that was taken nothing stands
+-- after nothing that was taken there is nothing
 nothing_behind : (file behind : List ℕ) → [] ≡ file ++ behind → behind ≡ []
 nothing_behind [] behind is = sym is
 nothing_behind (x ∷ file) behind is = cc

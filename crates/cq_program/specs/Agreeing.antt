@@ -59,9 +59,9 @@ module _ (L : Type 0) {S K : Type 0} (from : source.Ghosts S) (onto : sink.Ghost
     pub ends : Piped from onto input output
     pub asks : AsksFor L from onto words ends.read ends.read_now ends.written ends.written_now ended.Done
 
-  -- Where each of the three was done under the same settings, and no reply tells that memory was refused: `export` wrote
-  -- the file for the changes, `ask` its output for this file and questions on the project behind it, and `run` its own for the
-  -- changes and the questions. Then `run` has written the number of each change, and behind these what `ask` has written.
+  -- If each of the three was done under the same settings, and no reply reports that memory was refused: `export` wrote
+  -- the file for the changes, `ask` its output for this file and questions on the project after it, and `run` its own for the
+  -- changes and the questions. Then `run` has written the number of each change, and after these what `ask` has written.
   abbrev pub AskedAsRun : Type 0
   AskedAsRun = (set : Settings) (project changes questions file asked served : List ℕ)
       → ExportWrites set project changes file → AskWrites set (file ++ questions) asked → RunWrites from onto set (changes ++ questions) served

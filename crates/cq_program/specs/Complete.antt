@@ -1,4 +1,4 @@
--- What the clauses of the top call come to where nothing fails: a command is done, unless memory was refused.
+-- What the clauses of the top call come to if nothing fails: a command is done, unless memory was refused.
 use Rattle.std.specs.Prelude.{◌≡◌, ◌≢◌, ◌⊎◌, ◌<◌, ◌-◌, ◌^◌, ℕ, List, length, Option, Some}
 use Rattle.cq_base.specs.declared.settings.Settings.{Settings}
 use Rattle.cq_io.specs.declared.sink.Sink as sink
@@ -21,7 +21,7 @@ HasFewer limit rest = (bytes : List ℕ) × (rest ≡ Some bytes) × (length byt
 abbrev pub IsDone : Status → Type 0
 IsDone status = status ≢ ended.Memory → status ≡ ended.Done
 
--- a session of whose ends none failed has answered the lines to the end, where fewer bytes came than may be read
+-- a session of whose ends none failed has answered the lines to the end, if fewer bytes came than may be read
 abbrev pub SessionsComplete : Type 0
 SessionsComplete = (set : Settings) (reads reads_now : ℕ) (rest rest_now before written_now : Option (List ℕ)) (source source_now sink sink_now : ℕ) (status : Status) →
     (status ≢ ended.Memory → IsSession set reads reads_now rest rest_now before written_now source source_now sink sink_now status) →
@@ -39,13 +39,13 @@ ScriptsComplete = (set : Settings) (rest rest_now before written_now : Option (L
     (status ≢ ended.Memory → IsDrive set rest rest_now before written_now source source_now sink sink_now status) →
     IsQuiet source source_now → IsQuiet sink sink_now → HasFewer set.byte_limit rest → IsDone status
 
--- a made project is told where the sink did not fail
+-- a made project is reported if the sink did not fail
 abbrev pub MadeComplete : Type 0
 MadeComplete = (number files : ℕ) (before written_now : Option (List ℕ)) (sink sink_now : ℕ) (status : Status) →
     (status ≢ ended.Memory → IsMade number files before written_now sink sink_now status) →
     IsQuiet sink sink_now → IsDone status
 
--- no connection is left to come where the doors did not fail
+-- no connection is left to come if the doors did not fail
 abbrev pub ListensComplete : Type 0
 ListensComplete = (address : List ℕ) (bound_now : Option (List ℕ)) (left left_now : Option ℕ) (doors doors_now : ℕ) (status : Status) →
     HasListened address bound_now left left_now doors doors_now status →

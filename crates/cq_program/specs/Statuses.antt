@@ -78,7 +78,7 @@ module _ {K : Type 0} (onto : sink.Ghosts K) where
   EndsUnread _ written written_now = ⊥
 
 -- What the status of `listen` says of the doors. If it is done, they are bound to the address, and no connection is still to
--- come, where they tell it. If memory is refused, no connection was taken.
+-- come, if they say so. If memory is refused, no connection was taken.
 abbrev pub HasListened : List ℕ → Option (List ℕ) → Option ℕ → Option ℕ → ℕ → ℕ → Status → Type 0
 HasListened address bound_now left left_now doors doors_now ended.Done = (bound_now ≡ Some address) × IfSome left (λ _. left_now ≡ Some 0) × (doors_now ≡ doors)
 HasListened address bound_now left left_now doors doors_now ended.Memory = (left_now ≡ left) × (doors_now ≡ doors)

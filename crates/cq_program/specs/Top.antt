@@ -42,9 +42,9 @@ takes_first (Some (command.Export export)) = true
 takes_first (Some (command.Ask settings)) = true
 takes_first _ = false
 
--- One reply for each line, from nothing on, by a server to which nobody else speaks: by a lawful history of its own events alone,
--- where so many tokens were read before and now, and an index was asked so often; up to the first that tells want of memory,
--- those of a server alone; and throughout, those that a server may give beside which works are made.
+-- One reply for each line, from nothing on, by a server to which nobody else speaks: by a lawful history of only its own events,
+-- where so many tokens were read before and now, and an index was asked so often; up to the first that reports out of memory,
+-- those of a server without workers; and throughout, those that a server may give beside which works are made.
 pub record AreAlone (settings : Settings) (reads reads_now : ℕ) (lines : List (List ℕ)) (replies : List Reply) : Type 0 where
   pub after : List Event
   pub asked : ℕ
@@ -95,7 +95,7 @@ module _ {S K : Type 0} (from : source.Ghosts S) (onto : sink.Ghosts K) where
   RunsBeside asked reads reads_now read read_now written written_now status =
       status ≢ ended.Memory → IsSessionBeside asked.settings asked.workers reads reads_now (from.rest read) (from.rest read_now) (onto.written written) (onto.written written_now) (from.faults read) (from.faults read_now) (onto.faults written) (onto.faults written_now) status
 
-  -- a session alone where no worker is asked for, and else one with workers beside it
+  -- a session without workers if none is asked for, and else one with workers beside it
   abbrev pub RunsAsked : Run → ℕ → ℕ → S → S → K → K → Status → Type 0
   RunsAsked asked reads reads_now read read_now written written_now status =
       MatchBool (asked.workers == 0)
@@ -107,7 +107,7 @@ module _ {S K : Type 0} (from : source.Ghosts S) (onto : sink.Ghosts K) where
   Drives settings read read_now written written_now status =
       status ≢ ended.Memory → IsDrive settings (from.rest read) (from.rest read_now) (onto.written written) (onto.written written_now) (from.faults read) (from.faults read_now) (onto.faults written) (onto.faults written_now) status
 
-  -- where the words ask for one
+  -- if the arguments ask for one
   abbrev pub RunsFor : List (List ℕ) → ℕ → ℕ → S → S → K → K → Status → Type 0
   RunsFor words reads reads_now read read_now written written_now status =
       (asked : Run) → command_of words ≡ Some (command.Run asked) → RunsAsked asked reads reads_now read read_now written written_now status
@@ -120,12 +120,12 @@ module _ {K : Type 0} (onto : sink.Ghosts K) where
   abbrev pub MakesLine : Make → K → K → Status → Type 0
   MakesLine asked written written_now status = status ≢ ended.Memory → IsMade asked.number asked.files (onto.written written) (onto.written written_now) (onto.faults written) (onto.faults written_now) status
 
-  -- where the words ask for it
+  -- if the arguments ask for it
   abbrev pub MakesFor : List (List ℕ) → K → K → Status → Type 0
   MakesFor words written written_now status = (asked : Make) → command_of words ≡ Some (command.Make asked) → MakesLine asked written written_now status
 
 module _ (L : Type 0) {S K : Type 0} (from : source.Ghosts S) (onto : sink.Ghosts K) where
-  -- the version of the token file that the source begins with is asked by all lines behind it, and how that ended gives
+  -- the version of the token file that the source begins with is asked by all lines after it, and how that ended gives
   -- the status
   pub record IsAsk (settings : Settings) (read read_now : S) (written written_now : K) (status : Status) : Type 0 where
     pub by : Asked
@@ -136,11 +136,11 @@ module _ (L : Type 0) {S K : Type 0} (from : source.Ghosts S) (onto : sink.Ghost
   abbrev pub AsksFile : Settings → S → S → K → K → Status → Type 0
   AsksFile settings read read_now written written_now status = status ≢ ended.Memory → IsAsk settings read read_now written written_now status
 
-  -- where the words ask for one
+  -- if the arguments ask for one
   abbrev pub AsksFor : List (List ℕ) → S → S → K → K → Status → Type 0
   AsksFor words read read_now written written_now status = (settings : Settings) → command_of words ≡ Some (command.Ask settings) → AsksFile settings read read_now written written_now status
 
-  -- if memory was refused, no line behind a token file of the settings was taken
+  -- if memory was refused, no line after a token file of the settings was taken
   abbrev pub TakesNoLineFor : List (List ℕ) → S → S → Status → Type 0
   TakesNoLineFor words read read_now status = (settings : Settings) → command_of words ≡ Some (command.Ask settings) → status ≡ ended.Memory → TakesNoLine L from settings read read_now
 
@@ -154,18 +154,18 @@ module _ (L : Type 0) {S K : Type 0} (from : source.Ghosts S) (onto : sink.Ghost
   abbrev pub ExportsFile : Export → S → S → K → K → Status → Type 0
   ExportsFile asked read read_now written written_now status = status ≢ ended.Memory → IsExport asked read read_now written written_now status
 
-  -- where the words ask for it
+  -- if the arguments ask for it
   abbrev pub ExportsFor : List (List ℕ) → S → S → K → K → Status → Type 0
   ExportsFor words read read_now written written_now status = (asked : Export) → command_of words ≡ Some (command.Export asked) → ExportsFile asked read read_now written written_now status
 
 module _ {S K : Type 0} (from : source.Ghosts S) (onto : sink.Ghosts K) where
-  -- where the words ask for a command other than `listen`
+  -- if the arguments ask for a command other than `listen`
   abbrev pub EndsFor : List (List ℕ) → Status → S → S → K → K → Type 0
   EndsFor words status read read_now written written_now = command_of words ≢ None → connections_of words ≡ None → Ends from onto status read read_now written written_now
 
 -- ---- connections
 
--- where the words ask for it
+-- if the arguments ask for it
 abbrev pub ListensFor : List (List ℕ) → Option (List ℕ) → Option ℕ → Option ℕ → ℕ → ℕ → Status → Type 0
 ListensFor words bound_now left left_now doors doors_now status = (asked : Listen) → command_of words ≡ Some (command.Listen asked) → HasListened asked.address bound_now left left_now doors doors_now status
 

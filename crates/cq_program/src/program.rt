@@ -143,7 +143,7 @@ fn made<R: Threads + Sync, K: Sink, L: Ledger>(
     }
 }
 
-// A kept version, which the source begins with, asked by the lines behind it, and the status.
+// A kept version, which the source begins with, asked by the lines after it, and the status.
 fn kept<R: Threads + Sync, S: Source, K: Sink, L: Ledger>(
     rt: &R,
     alloc: Global,
@@ -186,10 +186,11 @@ fn exported<S: Source, K: Sink, L: Ledger>(
     }
 }
 
-/// The whole program: what the arguments ask for, over these ends, and how that ended. `run` answers the lines of the source into the sink; `listen` the lines of each connection into it; `drive` steps a
-/// core by the lines of the source, and writes their outcomes; `make` writes one line; `export` writes the token file of the
-/// version that the changes of the source make; `ask` answers the lines behind the token file that the source begins with.
-/// Threads are started for the workers of `run` and `listen` and for the sessions of `listen` alone, and each is joined before
+/// The whole program: what the arguments ask for, over these ends, and how that ended. `run` answers the lines of the source
+/// into the sink; `listen` the lines of each connection into it; `drive` steps a core by the lines of the source, and writes
+/// their outcomes; `make` writes one line; `export` writes the token file of the version that the changes of the source make;
+/// `ask` answers the lines after the token file that the source begins with.
+/// Threads are started only for the workers of `run` and `listen` and for the sessions of `listen`, and each is joined before
 /// this returns; the gate is then called from them too. The reads of the sessions of `listen` are counted on a ledger of their
 /// own.
 pub fn top<
@@ -239,8 +240,8 @@ pub fn top<
         result.status result.served }
     ensures unserved { connections_of words.now ≡ None → result.served ≡ None }
 
-    // Unless memory is refused, the status of `run` is that of a session over all lines of the source: alone if there is no
-    // worker, and otherwise with workers beside it.
+    // Unless memory is refused, the status of `run` is that of a session over all lines of the source, with workers beside
+    // it if there are any.
     ensures runs { RunsFor S.Source K.Sink words.now steps.old steps.new
         source.old source.new sink.old sink.new result.status }
 

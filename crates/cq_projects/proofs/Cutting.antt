@@ -121,7 +121,7 @@ module _ {W : Type 0} (hs : List (Arc (File W) Global)) (p : List ℕ) where
         take_map (arc_value {X = File W} {Z = Global}) (before - from) (drop from hs) ∙ ap (take (before - from)) (drop_map (arc_value {X = File W} {Z = Global}) from hs ∙ rest_is from le)
         ∙ ap (λ n. take n (drop from cut.low ++ (cut.same ++ cut.high))) (let e = length-drop from cut.low in omega (arith, e, cut.before_is)) ∙ take_seam (drop from cut.low) (cut.same ++ cut.high)
 
-    -- of the files from an index on, those before the path come behind the ones that are done, and then what stands there
+    -- of the files from an index on, those before the path come after the ones that are done, and then what stands there
     pub merges : (from : ℕ) → from ≤ before → (file : Option (Arc (File W) Global)) (done now : List (File W)) → now ≡ done ++ (map arc_value (take (before - from) (drop from hs)) ++ one_or_none file) →
         Merges p file done now (map arc_value (drop from hs)) (map arc_value (drop behind hs))
     merges from le file done now is = record {

@@ -52,7 +52,7 @@ module _ {W : Type 0} where
   abbrev value_of : Option (Arc (File W) Global) → Option (File W)
   value_of file = option_map arc_value file
 
-  -- what stands at a path behind the edits
+  -- what stands at a path after the edits
   abbrev look : List ℕ → List (Arc (List ℕ) Global × Option (Arc (File W) Global)) → Option (File W) → Option (File W)
   look r [] before = before
   look r (e ∷ es) before = cond (bytes_eq r (arc_value e.0)) (value_of e.1) (look r es before)

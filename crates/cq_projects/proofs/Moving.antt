@@ -50,7 +50,7 @@ module _ {X : Type 0} where
       pub moved_none : (done before : List X) → o ≡ None → before ≡ done ++ take n xs → before ≡ done ++ take (n + 1) xs
       moved_none done before e was = was ∙ ap (λ ys. done ++ ys) (sym (taken_all n xs (sym is ∙ none_came e)))
 
-  -- what is left behind some that were moved and some that went
+  -- what is left after some that were moved and some that went
   pub left_behind : (from before behind : ℕ) (xs rest now : List X) → from ≤ before → before ≤ behind → rest ≡ drop from xs → now ≡ drop (behind - before) (drop (before - from) rest) → now ≡ drop behind xs
   left_behind from before behind xs rest now first second is gone =
       gone ∙ ap (λ ys. drop (behind - before) (drop (before - from) ys)) is ∙ ap (drop (behind - before)) (drop-drop (before - from) from xs) ∙ drop-drop (behind - before) (from + (before - from)) xs

@@ -46,14 +46,14 @@ module _ {X : Type 0} (text : X → List ℕ) where
   all_above p q [] before all = tt
   all_above p q (x ∷ xs) before all = (before_chain p q (text x) before all.0, all_above p q xs before all.1)
 
-  -- behind one of them it is behind all before that one
+  -- after one of them it is after all before that one
   pub below_at : (p : List ℕ) (xs : List X) (i : ℕ) (d : X) → AreRising text xs → i < length xs → is_before (text (get_or xs i d)) p ≡ true → AreBelow text p (take (suc i) xs)
   below_at p [] i d rising lt before = absurd (omega (arith, lt))
   below_at p (x ∷ xs) zero d rising lt before = (before, tt)
   below_at p (x ∷ xs) (suc i) d rising lt before =
       (before_chain (text x) (text (get_or xs i d)) p (each_at (λ (y : X). is_before (text x) (text y) ≡ true) xs i d rising.0 (omega (arith, lt))) before, below_at p xs i d rising.1 (omega (arith, lt)) before)
 
-  -- before one of them it is before all behind that one
+  -- before one of them it is before all after that one
   pub above_at : (p : List ℕ) (xs : List X) (i : ℕ) (d : X) → AreRising text xs → i < length xs → is_before p (text (get_or xs i d)) ≡ true → AreAbove text p (drop i xs)
   above_at p [] i d rising lt before = absurd (omega (arith, lt))
   above_at p (x ∷ xs) zero d rising lt before = (before, all_above p (text x) xs before rising.0)
@@ -65,7 +65,7 @@ module _ {X : Type 0} (text : X → List ℕ) where
       let e : suc (place - 1) ≡ place = omega (arith, some) in
       subst (λ n. AreBelow text p (take n xs)) e (below_at p xs (place - 1) d rising (omega (arith, some, within)) before)
 
-  -- what compares as less is before, and what compares as greater behind, also by another name
+  -- what compares as less is before, and what compares as greater after, also by another name
   pub behind_is_lt : (p : List ℕ) (x y : X) → x ≡ y → is_lt (slice_cmp nat_cmp (text x) p) ≡ true → is_before (text y) p ≡ true
   behind_is_lt p x y same lt = subst (λ z. is_before (text z) p ≡ true) same lt
 

@@ -1,4 +1,4 @@
--- A batch of edits in path order is made in one walk: an edit of a path that is behind some files leaves them as they are.
+-- A batch of edits in path order is made in one walk: an edit of a path that is after some files leaves them as they are.
 use Rattle.std.proofs.Common.{Global, ◌≡◌, ℕ, suc, ◌+◌, ◌<◌, true, cond, not, List, [], ◌∷◌, ◌++◌, length, Option, Some, None, refl, sym, ap, ◌∙◌, subst, arith}
 use Rattle.std.specs.Prelude.{All}
 use Rattle.std.specs.Arc.{arc_value}
@@ -35,7 +35,7 @@ module _ {X : Type 0} where
   insert_low (g ∷ low) files n f =
       ap (λ k. insert (g ∷ (low ++ files)) k f) (let e : length (g ∷ low) + n ≡ suc (length low + n) = omega arith in e) ∙ ap (λ r. g ∷ r) (insert_low low files n f)
 
-  -- a file that is put behind some leaves them as they are
+  -- a file that is put after some leaves them as they are
   pub with_low : (f : File X) (low files : List (File X)) → AreBelow path_of f.path low → with_file f (low ++ files) ≡ low ++ with_file f files
   with_low f low files below =
       ap (λ r. insert r (place_of f.path r) f) (without_low f.path low files below)
@@ -65,7 +65,7 @@ module _ {X : Type 0} where
   at_later p q (x ∷ files) before at = (ap (λ r. is_before r q) at.0 ∙ before, at_later p q files before at.1)
 
 module _ {W : Type 0} where
-  -- each later edit is at a path behind this one
+  -- each later edit is at a path after this one
   abbrev pub AreLater : List ℕ → List (Arc (List ℕ) Global × Option (Arc (File W) Global)) → Type 0
   AreLater p es = AllByRecursion (λ (e : Arc (List ℕ) Global × Option (Arc (File W) Global)). is_before p (arc_value e.0) ≡ true) es
 

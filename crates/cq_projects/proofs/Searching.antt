@@ -19,7 +19,7 @@ turned r Less e h = refl
 turned r Equal e h = absurd (cc)
 turned r Greater e h = absurd (cc)
 
--- what compares as greater comes behind
+-- what compares as greater comes after
 pub before_greater : (p q : List ℕ) → slice_cmp nat_cmp q p ≡ Greater → is_before p q ≡ true
 before_greater p q h = turned (slice_cmp nat_cmp q p) (slice_cmp nat_cmp p q) (nat_list_cmp_total.antisymm q p) h
 

@@ -81,7 +81,7 @@ module _ {W : Type 0} where
   abbrev pub AreMerged : List (Arc (List ℕ) Global × Named W) → List (Arc (File W) Global) → Vec (Arc (File W) Global) Global → Type 0
   AreMerged entries files all = held_in all.items ≡ edited_named entries (held_in files)
 
-  -- of each path it is kept where the files are cut at it
+  -- of each path it is kept at which place the files are cut
   abbrev pub AreCut : List (File W) → List (Arc (List ℕ) Global × Named W) → Type 0
   AreCut files entries = AllByRecursion (λ (e : Arc (List ℕ) Global × Named W). IsCut (arc_value e.0) files e.1.before e.1.behind) entries
 

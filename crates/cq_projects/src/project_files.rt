@@ -21,7 +21,7 @@ use std::mem;
 use std::sync::Arc;
 
 /// The files of one project at a version, in path order, with a look-up by path and one by the change that put a file.
-/// They are fewer than 2^32: more are refused as want of memory. Contracts see the files.
+/// They are fewer than 2^32: more are refused as if there were no memory. Contracts see the files.
 #[derive(Drop)]
 pub struct ProjectFiles<W> {
     items: Vec<Arc<Held<W>, Global>>,

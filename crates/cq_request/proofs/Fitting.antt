@@ -1,8 +1,9 @@
 -- Whether a value's numbers are too large is what its tokens say; and what a text spells, of the value of its tokens.
-use Rattle.std.proofs.Common.{◌≡◌, ℕ, zero, suc, ◌-◌, ◌^◌, ◌==◌, nat_le, nat_lt, List, [], ◌∷◌, drop, take, length, Bool, true, false, cond, ◌&&◌, Option, Some, None, option_map, refl, sym, ap, ap₂, ◌∙◌, arith, append-nil}
+use Rattle.std.proofs.Common.{◌≡◌, ℕ, zero, suc, ◌-◌, ◌^◌, ◌<◌, ◌==◌, nat_le, nat_lt, List, [], ◌∷◌, drop, take, length, Bool, true, false, cond, ◌&&◌, Option, Some, None, SomeIff, IfSome, not, option_map, refl, sym, ap, ap₂, ◌∙◌, arith, append-nil}
 use Rattle.std.specs.Prelude.{is_some, option_and_then, slice_index, unwrap_or}
 use Rattle.std.specs.Float.{binary64, float_is_finite}
 use Rattle.std.specs.List.{list_all}
+use Rattle.std.proofs.lemmas.Bool.{eq-eqb, lt-ltb}
 use Rattle.std.proofs.lemmas.List.{length-drop, take_all}
 use Rattle.std.proofs.lemmas.Option.{none-some}
 use Rattle.json.specs.Token.{Token}
@@ -12,10 +13,10 @@ use Rattle.json.specs.Json.{Json, Parse, parse_map, after_end_array, read_key, i
 use Rattle.json.specs.Print.{print_from, ArePrintable, IsNumber}
 use Rattle.json.proofs.Grammar.{closed_array, read_key_is, key_token, value_is}
 use Rattle.json.proofs.Printed.Tokens.{tokens-print}
-use Rattle.fast_float.specs.Text.{Parts, digits_of, nearest, scan, with_sign}
+use Rattle.fast_float.specs.Text.{IsInteger, Parts, digits_of, nearest, scan, with_sign}
 use Rattle.serde_json.specs.Data.{Num, unsigned, negative, float, Data, null, number, array, object, Items, item, Members, no_members, put}
 use Rattle.serde_json.specs.Find.{as_object}
-use Rattle.serde_json.specs.Read.{number_of, number_from, is_integer, of_json, of_items, of_members, read}
+use Rattle.serde_json.specs.Read.{number_of, number_from, float_of, is_integer, of_json, of_items, of_members, read}
 use Rattle.cq_request.specs.Valued.{fits, fit_items, fit_members, valued, valued_items, valued_members, token_fits, IsNoObjectText}
 
 -- ---- by its tokens
@@ -220,3 +221,25 @@ finite_negative s sign fit = finite_after_sign s sign (ap (λ (ds : List ℕ). f
 pub finite_positive : (s : List ℕ) → (slice_index s 0 == 45) ≡ false → float_is_finite (nearest binary64 false (scan s)) ≡ true → is_some (number_of s) ≡ true
 unfolding number_of
 finite_positive s sign fit = ap (λ (b : Bool). is_some (cond b (number_from true (scan (drop 1 s))) (number_from false (scan s)))) sign ∙ finite_number false (scan s) fit
+
+-- ---- an integer
+
+both_so : (a b : Bool) → a ≡ true → b ≡ true → (a && b) ≡ true
+both_so a b is so = ap₂ (λ x y. x && y) is so
+
+integer_number : (s : List ℕ) → (slice_index s 0 == 45) ≡ false → IsInteger (scan s) → digits_of (scan s) < 2 ^ 64 → number_of s ≡ Some (unsigned (digits_of (scan s)))
+unfolding number_of
+integer_number s sign is low =
+    let (some, no_point, no_exponent) = is in
+    let whole = lt-ltb 0 (length (scan s).whole) some in
+    let part : not (scan s).point ≡ true = ap not no_point in
+    let last = eq-eqb (length (scan s).exponent) 0 no_exponent in
+    let integer : is_integer (scan s) ≡ true = both_so (nat_lt 0 (length (scan s).whole) && not (scan s).point) (length (scan s).exponent == 0) (both_so (nat_lt 0 (length (scan s).whole)) (not (scan s).point) whole part) last in
+    let fits64 = both_so (is_integer (scan s)) (nat_lt (digits_of (scan s)) (2 ^ 64)) integer (lt-ltb (digits_of (scan s)) (2 ^ 64) low) in
+    ap (λ (b : Bool). cond b (number_from true (scan (drop 1 s))) (number_from false (scan s))) sign
+    ∙ ap (λ (b : Bool). cond b (Some (unsigned (digits_of (scan s)))) (float_of false (scan s))) fits64
+
+-- what an exact reader of integers answers
+pub integer_read : (s : List ℕ) (r : Option ℕ) → (slice_index s 0 == 45) ≡ false → SomeIff r (IsInteger (scan s) × (digits_of (scan s) < 2 ^ 64)) (digits_of (scan s)) → IfSome r (λ n. number_of s ≡ Some (unsigned n))
+integer_read s None sign is = tt
+integer_read s (Some n) sign is = integer_number s sign is.0.0 is.0.1 ∙ ap (λ (m : ℕ). Some (unsigned m)) (sym is.1)

@@ -97,10 +97,6 @@ left_at key least Less is other = absurd (other is)
 left_at key least Equal is other = min_is key least Equal is ∙ exact_bytes key least is
 left_at key least Greater is other = min_is key least Greater is
 
-pub least_taken : (key : List ℕ) (o : Option (List ℕ)) → IsLeast key o true → Some key ≡ Some (lesser key o)
-least_taken key None is = refl
-least_taken key (Some least) is = ap Some (sym (min_is key least Less (is.0 refl)))
-
 pub least_left : (key : List ℕ) (o : Option (List ℕ)) → IsLeast key o false → o ≡ Some (lesser key o)
 least_left key None is = absurd (cc)
 least_left key (Some least) is = ap Some (sym (left_at key least (slice_cmp nat_cmp key least) refl (is.1 refl)))

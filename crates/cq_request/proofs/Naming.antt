@@ -26,7 +26,7 @@ first_good : (a : Bool) (k : List ℕ) (later : Option (List ℕ)) → cond a la
 first_good true k later none = refl
 first_good false k later none = absurd (cc)
 
--- the second of two tests behind which nothing is refused has passed, whatever follows
+-- the second of two tests after which nothing is refused has passed, whatever follows
 second_passed : (a b : Bool) (later : Option Refusal) → unless a refusal.Lang (unless b refusal.Path later) ≡ None → b ≡ true
 second_passed true true later none = refl
 second_passed true false later none = absurd (cc)

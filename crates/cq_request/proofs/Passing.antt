@@ -23,7 +23,7 @@ use Rattle.cq_request.specs.Rows.{needed, rule_of, rules_of, fault_of}
 use Rattle.cq_request.specs.Sound.{IsScopeBeside}
 use Rattle.cq_request.specs.Reading.{unless, field_or, text_passes, min_passes, scope_passes, value_refused, why_refused, conditions_or}
 
--- the last two of five tests behind which nothing is refused have passed
+-- the last two of five tests after which nothing is refused have passed
 all_passed : (a b c d e : Bool) → unless a refusal.Lang (unless b refusal.Path (unless c refusal.TooMuchText (unless d refusal.Min (unless e refusal.Scope None)))) ≡ None → (d ≡ true) × (e ≡ true)
 all_passed true true true true true none = (refl, refl)
 all_passed true true true true false none = absurd (cc)

@@ -5,7 +5,7 @@ use Rattle.json.specs.Token.{Token}
 use Rattle.json.specs.Json as json
 use Rattle.json.specs.Json.{Json, Parse, parse_map, after_end_array, read_key, items, members, skip_value, value}
 use Rattle.json.proofs.Grammar.{left, items_end, items_fail, items_more, members_end, members_fail, members_more, members_no_key, after_end_array-shorter, left-parse_map, left_none, read_key-shorter, skip_item, skip_member, value-begin_array, value-begin_object}
-use Rattle.serde_json.specs.Data.{Items, no_items, item, Members, no_members, put}
+use Rattle.serde_json.specs.Data.{Members, put}
 use Rattle.cq_request.specs.Members.{items_in}
 use Rattle.cq_request.specs.Valued.{fits, fit_items, fit_members, valued, valued_items, valued_members, nested, IsOver, IsUnfit}
 

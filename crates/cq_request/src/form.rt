@@ -8,7 +8,7 @@ ghost use Rattle.json.specs.Json.{value};
 ghost use Rattle.json.specs.Token.{begin_array};
 ghost use Rattle.cq_request.specs.Valued.{fits, formed, token_fits, IsJsonFor, IsMemberRead, IsUnfit};
 
-use crate::member::parsed_number;
+use crate::numbers::number_value;
 use crate::request::ReadError;
 use crate::skipping::pass_rest;
 use json::{Reader, Token};
@@ -90,7 +90,7 @@ fn number_of(alloc: Global, token: Token<'_>) -> Result<Option<Value>, ReadError
     ensures refused { IfErr result (IsJsonFor (token_fits (token_of token.entry) ≡ false)) }
 {
     if let Token::Number(text) = token {
-        return Ok(Some(parsed_number(alloc, text)?));
+        return Ok(Some(number_value(alloc, text)?));
     }
     Ok(None)
 }

@@ -6,7 +6,7 @@ ghost use Rattle.serde_json.specs.View.{view, members_view};
 ghost use Rattle.cq_request.specs.Valued.{fits, fit_items, fit_members, IsConditionNoted, IsConditionRead, IsItemRead, IsJsonFor, IsListRead, IsSameCondition, IsUnfit, NotesItem};
 
 use crate::condition::condition_of;
-use crate::form::{Form, condition_form_of, rest_of_form};
+use crate::form::{condition_form_of, rest_of_form};
 use crate::member::put_member;
 use crate::request::ReadError;
 use crate::skipping::pass_rest;

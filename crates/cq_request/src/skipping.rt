@@ -1,9 +1,7 @@
 //! Values of a line that no request has. They are checked, and nothing of them is kept.
 
-ghost use Rattle.std.specs.Prelude.{◌≡◌, ◌==◌, ◌∷◌, ◌<◌, ◌≤◌, length, slice_index, true, false, Some, None, is_some, IfOk, IfErr, OnOk, IsTrue};
-ghost use Rattle.std.specs.Float.{binary64, float_is_finite};
+ghost use Rattle.std.specs.Prelude.{◌≡◌, ◌∷◌, ◌≤◌, length, true, false, Some, None, is_some, IfOk, IfErr, OnOk};
 ghost use Rattle.std.specs.List.{list_all};
-ghost use Rattle.fast_float.specs.Text.{nearest, scan};
 ghost use Rattle.json.specs.Json.{read_key, skip_value};
 ghost use Rattle.json.specs.Lex.{tokens};
 ghost use Rattle.json.specs.Print.{IsNumber, IsPrintableOrBad};
@@ -11,10 +9,9 @@ ghost use Rattle.json.specs.Reads.{token_of};
 ghost use Rattle.serde_json.specs.Read.{number_of};
 ghost use Rattle.cq_request.specs.Valued.{nested, token_fits, IsJsonFor, IsOver};
 
-use crate::member::parsed_number;
+use crate::numbers::{is_finite, parsed_number};
 use crate::request::ReadError;
 use cq_base::Refusal;
-use fast_float::Numeral;
 use json::{Reader, Scratch, Token};
 use std::alloc::Global;
 
@@ -68,35 +65,6 @@ fn is_over(reader: &mut Reader<'_>, is_list: bool) -> Result<bool, ReadError>
         Some(_key) => Ok(false),
         None => Ok(true),
     }
-}
-
-// Whether the float nearest to a number is finite, so that it has a value.
-fn is_finite(number: &str) -> bool
-    ensures { IsTrue result → is_some (number_of number.now) ≡ true }
-{
-    let bytes = number.as_bytes();
-    if is_negative(bytes) {
-        return is_finite_numeral(true, &bytes[1..]);
-    }
-    is_finite_numeral(false, bytes)
-}
-
-fn is_negative(bytes: &[u8]) -> bool
-    ensures value { result ≡ (slice_index bytes.now 0 == 45) }
-    ensures first { IsTrue result → 0 < length bytes.now }
-{
-    match bytes.first() {
-        Some(first) => *first == b'-',
-        None => false,
-    }
-}
-
-fn is_finite_numeral(is_negative: bool, digits: &[u8]) -> bool
-    ensures { result ≡ float_is_finite (nearest binary64 is_negative (scan digits.now)) }
-{
-    Numeral::scan(digits)
-        .to_float::<f64>(is_negative)
-        .is_finite()
 }
 
 /// Checks that no number of a text is too large to have a value.

@@ -19,7 +19,7 @@ matches_from_tokens corpus p q n p_in q_in same other = record {
   right = other;
 }
 
--- where one of the files ends there is no token behind
+-- where one of the files ends no token follows
 pub end_differs : {T : Type 0} (corpus : List (List T)) (p q : Place) (n : ℕ) → length (file_at corpus p.file) ≤ p.at + n → AreSame (token_behind corpus p n) (token_behind corpus q n) → ⊥
 end_differs corpus p q n past same =
     true≢false (sym same.0 ∙ ap is_some (slice_get_past (file_at corpus p.file) (p.at + n) past))

@@ -24,7 +24,7 @@ adds_there old group ordered ties (k, x, within, at, tied) = record {
   each = λ z. (λ c. inl c, λ h. ⊎_elim (λ c. c) (λ e. subst (Contains old) (ties x (k, within, at) tied ∙ e) (k, within, at)) h);
 }
 
--- a group that is not there comes behind all others, for now
+-- a group that is not there comes after all others, for now
 pub adds_new : (old : List Group) (group : Group) → AllPairs (AreOrdered ComesBefore) old → (Any (λ g. AreTied g group) old → ⊥) → Adds (λ g. group ≡ g) old (old ++ group ∷ [])
 adds_new old group ordered new =
     in_order_push (AreOrdered ComesBefore) (Contains old) (λ g. Contains old g ⊎ (group ≡ g)) old group

@@ -1,4 +1,4 @@
--- What follows somewhere in a list is what is behind a front of it.
+-- What follows somewhere in a list is what comes after a front of it.
 use Rattle.std.proofs.Common.{◌≡◌, ◌↔◌, List, [], ◌∷◌, ◌++◌, Bool, true, false, ◌||◌, refl, ap, ◌∙◌}
 use Rattle.std.specs.List.{list_any}
 use Rattle.cq_scope.specs.Fits.{suffixes}

@@ -7,7 +7,7 @@ use Rattle.cq_board.specs.Answers.{IsJob}
 use Rattle.cq_board.specs.declared.answers.Job.{Job}
 use Rattle.cq_history.specs.Changes.{IsWorkFor}
 use Rattle.cq_history.proofs.Doing as doing
-use Rattle.cq_session.proofs.Working.{job_work}
+use Rattle.cq_board.proofs.Jobs.{job_work}
 use Rattle.cq_base.specs.declared.settings.Settings.{Settings}
 use Rattle.cq_history.specs.declared.event.Event.{Event}
 use Rattle.cq_history.specs.declared.event.Event.TheVariants as event

@@ -15,7 +15,7 @@ IsOfTurn c events = (r : ℕ) × (
     ⊎ (events ≡ event.Took c r ∷ event.Back c r ∷ event.Ask c ∷ [])
     ⊎ (events ≡ event.Took c r ∷ event.Ask c ∷ []))
 
--- the caller's further events are those of turns, one behind another
+-- the caller's further events are those of turns, one after another
 pub record Labour (alone : Type 0) (c : ℕ) (h after : List Event) : Type 0 where
   pub turns : List (List Event)
   pub each : AllByRecursion (IsOfTurn c) turns

@@ -16,7 +16,7 @@ pub record AtEase (s : State) (c : ℕ) : Type 0 where
 
 module _ (alone : Type 0) (callers c : ℕ) (h : List Event) where
   -- Of the caller's own, first these events came, then a moment of which this holds, and then those. Others' events may
-  -- stand anywhere between them, and publications behind the moment.
+  -- stand anywhere between them, and publications after the moment.
   pub record Passes (before : List Event) (Says : State → Type 0) (behind after : List Event) : Type 0 where
     pub mid : List Event
     pub first : Grows alone Never c h mid before
@@ -24,7 +24,7 @@ module _ (alone : Type 0) (callers c : ℕ) (h : List Event) where
     pub rest : Grows alone IsPublication c mid after behind
 
   -- A change that was taken is done by this caller, or was done by another before; or memory was refused for its work, and
-  -- it is given back, unless another has done it by then. Behind each of these the caller asks.
+  -- it is given back, unless another has done it by then. After each of these the caller asks.
   abbrev pub IsTurn : Turn → List Event → Type 0
   IsTurn Idle after = Grows alone Never c h after [] × IsNoneFree (state callers after)
   IsTurn (Worked r) after = Passes (event.Took c r ∷ []) (λ s. IsUndone s r) (event.Done c r ∷ event.Ask c ∷ []) after

@@ -12,7 +12,7 @@ use cq_session::Server;
 use cq_work::{Work, work_for};
 use std::sync::ledger::Ledger;
 
-// Publishes what is done, where there is memory for it.
+// Publishes what is done, if there is memory for it.
 fn publish_done<R, L: Ledger, H: Hub<Work<L>>, G: Gate>(
     server: &Server<'_, R, H, G>,
     pass: &mut H::Pass,
@@ -32,7 +32,7 @@ fn publish_done<R, L: Ledger, H: Hub<Work<L>>, G: Gate>(
 }
 
 /// A worker's turn: takes the first change that is neither done nor taken, makes its work, and publishes what is done
-/// then, where there is memory for that. Where there is none to make the work, the change is given back. It costs what
+/// then, if there is memory for that. If there is none to make the work, the change is given back. It costs what
 /// `work_of` does for the change's text, and what it costs to apply the works that are done.
 pub fn turn<R, L: Ledger, H: Hub<Work<L>>, G: Gate>(
     server: &Server<'_, R, H, G>,

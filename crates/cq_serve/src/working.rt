@@ -13,7 +13,7 @@ use cq_work::Work;
 use std::sync::Wait;
 use std::sync::ledger::Ledger;
 
-// Sleeps where no change could be taken, or no work made.
+// Sleeps if no change could be taken, or no work made.
 fn rest<Q: Wait>(rt: &Q, bell: &Bell, heard: u64, came: Turn) {
     match came {
         Turn::Worked(_) => {}
@@ -24,7 +24,7 @@ fn rest<Q: Wait>(rt: &Q, bell: &Bell, heard: u64, came: Turn) {
     }
 }
 
-/// A worker: takes turns until the bell's end. Where there is no change to take, or no memory, it sleeps until the bell
+/// A worker: takes turns until the bell's end. If there is no change to take, or no memory, it sleeps until the bell
 /// rings.
 pub fn work<Q: Wait, L: Ledger, H: Hub<Work<L>>, G: Gate>(
     server: &Server<'_, Q, H, G>,

@@ -3,7 +3,6 @@ pub mod ProjectEntries
 pub mod Answered
 pub mod Spending
 pub mod LineCosts
-pub mod Working
 pub mod ManyWorks
 pub mod OneView
 pub mod InView

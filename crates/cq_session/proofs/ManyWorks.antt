@@ -18,7 +18,7 @@ all_up a b [] [] le one two = tt
 all_up a b [] (s ∷ ss) le one two = (let x = two.0 in omega (arith, x, le), all_up a b [] ss le one two.1)
 all_up a b (r ∷ rs) ss le one two = (one.0, all_up a b rs ss le one.1 two)
 
--- so many works are done, and those behind another one up to a last one
+-- so many works are done, and those after another one up to a last one
 pub record AreDoneAround (callers done left to : ℕ) (after : List Event) : Type 0 where
   pub front : done ≤ ready (state callers after)
   pub back : (r : ℕ) → left < r → r ≤ to → IsDone (state callers after) r

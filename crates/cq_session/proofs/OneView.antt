@@ -31,8 +31,20 @@ use Rattle.cq_session.specs.Viewing.{ShowsAt, ViewsOrNot}
 use Rattle.cq_session.proofs.Spending.{costs_none, costs_later}
 use Rattle.cq_talk.proofs.Leading.{stands_mid}
 
-module _ {S P W : Type 0} (Stands : S → P → ℕ → List Event → Type 0) (set : Settings) (callers : ℕ) (alone : Type 0) (hub : S) (IsWork : Lang → List ℕ → W → Type 0)
-    (lawful : (pass : P) (c : ℕ) (h : List Event) → Stands hub pass c h → Lawful set callers h) (caller : (pass : P) (c : ℕ) (h : List Event) → Stands hub pass c h → c < callers) (c to : ℕ) (h : List Event) where
+module _ {S W P : Type 0} (of : Ghosts S W P) (hub : S) (IsWork : Lang → List ℕ → W → Type 0)
+    (lawful : (pass : P) (c : ℕ) (h : List Event) → of.Stands hub pass c h → Lawful (of.settings hub) (of.callers hub) h) (caller : (pass : P) (c : ℕ) (h : List Event) → of.Stands hub pass c h → c < of.callers hub) (c to : ℕ) (h : List Event) where
+  abbrev pub Stands : S → P → ℕ → List Event → Type 0
+  Stands = of.Stands
+
+  abbrev pub set : Settings
+  set = of.settings hub
+
+  abbrev pub callers : ℕ
+  callers = of.callers hub
+
+  abbrev pub alone : Type 0
+  alone = of.alone
+
   -- the publication was given up
   pub not_advanced : (Says : List Event → Type 0) (pass : P) (advanced : Calls Stands alone IsPublication c hub pass h [] Says) → IsClosed callers c h → (q : Query) (reads asked asked_now : ℕ) → asked_now ≡ asked → Leads Stands callers c hub pass (ViewsOrNot set alone c to q (counted reads reads asked asked_now) h)
   not_advanced Says pass advanced closed q reads asked asked_now same = record {
@@ -88,7 +100,7 @@ module _ {S P W : Type 0} (Stands : S → P → ℕ → List Event → Type 0) (
           abbrev viewing_of : Query → Bool → List Viewing
           viewing_of q answered = record { query = q; version = view.version; answered = answered } ∷ []
 
-          -- at a history behind, where the floor may have been raised
+          -- at a later history, at which the floor may have been raised
           module _ (now : List Event) (sweeps : Grows alone IsFloor c later now []) where
             was_viewed : Views alone c to h (Some view.version) now
             was_viewed =
@@ -117,7 +129,7 @@ module _ {S P W : Type 0} (Stands : S → P → ℕ → List Event → Type 0) (
             costs_now : (q : Query) (answered : Bool) (n : Counts) → Costs set (accepted before) (viewing_of q answered) n → Costs set (accepted now) (viewing_of q answered) n
             costs_now q answered n costs = subst (λ g. Costs set (accepted g) (viewing_of q answered) n) (sym grows_now.after_is) (costs_later set before grows_now.more (viewing_of q answered) n (few_before, tt) costs)
 
-          -- the view was read and shut, and the floor was raised behind it
+          -- the view was read and shut, and the floor was raised after it
           pub was_shown : (four : P) (swept : Calls Stands alone IsFloor c hub four (shut.mid ++ Shut c ∷ []) [] (λ mid. IsSwept (state callers mid))) (q : Query) (r : Reply) (n : Counts) → IsReply set (accepted (opened.mid ++ Open c view.version ∷ [])) view.version q r
               → Costs set (accepted (opened.mid ++ Open c view.version ∷ [])) (record { query = q; version = view.version; answered = true } ∷ []) n → Leads Stands callers c hub four (ShowsAt set callers alone c to q n r h)
           was_shown four swept q r n is costs = record {

@@ -34,7 +34,7 @@ module _ {S P : Type 0} (Stands : S → P → ℕ → List Event → Type 0) (se
   abbrev asks : Asks alone c h then
   asks = record { mid = call.mid; waits = call.others; asks = refl }
 
-  -- the pass stands for the history behind the question, with no view open; what was told is so there
+  -- the pass stands for the history after the question, with no view open; what was told is so there
   abbrev pub asked_led : Leads Stands callers c hub one (λ after. (r.done ≤ ready (state callers after)) × (r.accepted ≤ length (accepted after)))
   asked_led = record { after = then; stands = call.stands; closed = facts.closed; holds = (facts.ready_then, facts.few_then) }
 

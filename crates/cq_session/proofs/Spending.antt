@@ -39,7 +39,7 @@ all_weaker : {A : Type 0} (P Q : A → Type 0) → ((x : A) → P x → Q x) →
 all_weaker P Q to [] all = tt
 all_weaker P Q to (x ∷ xs) all = (to x all.0, all_weaker P Q to xs all.1)
 
--- ---- a version depends on no change behind it
+-- ---- a version depends on no change after it
 
 module _ (set : Settings) (h more : List Event) (version : ℕ) (q : Query) (within : version ≤ length (accepted h)) where
   pub most_before : (reads : ℕ) → IsMostRead set (accepted (h ++ more)) version q reads → IsMostRead set (accepted h) version q reads

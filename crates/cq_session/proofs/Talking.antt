@@ -37,7 +37,7 @@ module _ (set : Settings) (callers : ℕ) (alone : Type 0) (c : ℕ) where
   changed_given_up h later change r needs (inl is) = absurd (subst NeedsMemory is.reply_is needs)
   changed_given_up h later change r needs (inr is) = is.waits
 
-  -- what was answered and is not told for want of memory is given up
+  -- what was answered and is not sent since memory was refused is given up
   pub answer_given_up : (seen : ℕ) (h later : List Event) (l : Said) (r : Reply) → NeedsMemory r → IsAnswer set callers alone c seen h l r later → IsGivenUp set callers alone c seen h l later
   answer_given_up seen h later TooLong r needs is = absurd (subst NeedsMemory is.0 needs)
   answer_given_up seen h later (Read (Err why)) r needs is = is.1
@@ -56,7 +56,7 @@ module _ (set : Settings) (callers : ℕ) (alone : Type 0) (c : ℕ) where
       → AtCost set c (Read is) reply.Memory n h (IsGivenUp set callers alone c seen h (Read is)) later → AtCost set c (Read says) reply.Memory n h (IsGivenUp set callers alone c seen h (Read says)) later
   given_up_as seen h later n says is same row = subst (λ (s : Result Request Refusal). AtCost set c (Read s) reply.Memory n h (IsGivenUp set callers alone c seen h (Read s)) later) (sym same) row
 
-  -- a line that was not read for want of memory did nothing
+  -- a line that was not read since memory was refused did nothing
   pub nothing_done : (seen : ℕ) (h later : List Event) (says : Result Request Refusal) → Waits alone c h later → IsGivenUp set callers alone c seen h (Read says) later
   nothing_done seen h later (Err why) waits = waits
   nothing_done seen h later (Ok (request.Change change)) waits = waits

@@ -39,7 +39,7 @@ abbrev pub given_up_in : Query → Option ℕ → List Viewing
 given_up_in q None = []
 given_up_in q (Some v) = record { query = q; version = v; answered = false } ∷ []
 
--- for a line: that of the version which the reply to a query shows; one or none where memory was refused to a query; and
+-- for a line: that of the version which the reply to a query shows; one or none if memory was refused to a query; and
 -- none else
 abbrev pub AreViewings : Said → Reply → List Viewing → Type 0
 AreViewings (Read (Ok (request.Query q))) r vs = (vs ≡ answered_in q (shown_in r)) ⊎ ((r ≡ reply.Memory) × (view : Option ℕ) × (vs ≡ given_up_in q view))

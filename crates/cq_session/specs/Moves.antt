@@ -1,4 +1,4 @@
--- How the pass behind buckets moves.
+-- How the pass that buckets are read by moves.
 use Rattle.std.specs.Prelude.{◌≡◌, ℕ, ◌-◌, ◌^◌, ◌≤◌, min, List, []}
 use Rattle.std.specs.Borrow.{GName}
 use Rattle.cq_base.specs.declared.lang.Lang.{Lang}

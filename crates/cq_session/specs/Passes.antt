@@ -42,7 +42,7 @@ module _ {H W P : Type 0} (of : Ghosts H W P) (hub : H) where
     abbrev pub HasOpen : Type 0
     HasOpen = HasSeen of.Stands hub pass (λ c h. IsOpen (IsWork (of.settings hub)) (state (of.callers hub) h) c view)
 
-    -- this holds of the accepted changes where the pass has the view open
+    -- this holds of the accepted changes if the pass has the view open
     abbrev pub WhereOpen : (List Change → Type 0) → Type 0
     WhereOpen Holds = InView of.Stands (of.callers hub) (IsWork (of.settings hub)) hub view pass Holds
 
@@ -93,7 +93,7 @@ module _ {H W P : Type 0} (of : Ghosts H W P) (hub : H) where
   -- ---- from one pass to another, for each history that the first one stood for with no view open
 
   module _ (old new : P) where
-    -- works of changes up to one were done, and that holds behind them, where this held
+    -- works of changes up to one were done, and that holds after them, if this held
     abbrev pub HasHelped : (List Event → Type 0) → ℕ → (List Event → Type 0) → Type 0
     HasHelped If to Holds = Led of.Stands (of.callers hub) hub old new If (λ c h. Helps of.alone c to h Holds)
 
@@ -101,7 +101,7 @@ module _ {H W P : Type 0} (of : Ghosts H W P) (hub : H) where
     abbrev pub HasDone : ℕ → Type 0
     HasDone change = HasHelped Always change (λ after. IsDone (state (of.callers hub) after) change)
 
-    -- where so many works were done, those up to another one are
+    -- if so many works were done, those up to another one are
     abbrev pub HasDoneUpTo : ℕ → ℕ → Type 0
     HasDoneUpTo done to = HasHelped (λ h. done ≤ ready (state (of.callers hub) h)) to (λ after. done ≤ to → to ≤ ready (state (of.callers hub) after))
 
@@ -127,7 +127,7 @@ module _ {H W P : Type 0} (of : Ghosts H W P) (hub : H) where
       abbrev spent : Counts
       spent = counted reads reads_now (of.asked old) (of.asked new)
 
-      -- a view of a version not below this one was opened, shut and swept behind, and the reply is by it
+      -- a view of a version not below this one was opened, shut, and the floor raised after it, and the reply is by it
       abbrev pub HasShown : ℕ → Query → Reply → Type 0
       HasShown to q r = Led of.Stands (of.callers hub) hub old new Always (λ c h. ShowsAt (of.settings hub) (of.callers hub) of.alone c to q spent r h)
 

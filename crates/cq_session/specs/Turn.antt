@@ -10,7 +10,7 @@ use Rattle.cq_talk.specs.Said.{Said, said}
 use Rattle.cq_talk.specs.Talk.{Talk, Answers}
 use Rattle.cq_session.specs.Costs.{AreAllViewings, AreViewings, Counts, Spends}
 
--- the replies to lines, from one history to another, where nothing was named before
+-- the replies to lines, from one history to another, if nothing was named before
 abbrev pub IsTalk : Settings → ℕ → Type 0 → ℕ → List Event → List Event → List (List ℕ) → List Reply → Type 0
 IsTalk set callers alone c h after lines replies = Talk set callers alone c 0 h (map (said set.chunk) lines) replies after
 

@@ -18,7 +18,7 @@ use Rattle.cq_session.specs.Costs.{Counts, Costs, answered_in, given_up_in}
 abbrev pub InView : {S P W : Type 0} → (S → P → ℕ → List Event → Type 0) → ℕ → (Lang → List ℕ → W → Type 0) → S → View W → P → (List Change → Type 0) → Type 0
 InView Stands callers IsWork hub view pass Holds = (c : ℕ) (h : List Event) → Stands hub pass c h → IsOpen IsWork (state callers h) c view → Holds (accepted h)
 
--- the reply is that of the version of a view that was opened, shut and swept behind, which is not below a version, at this cost
+-- the reply is that of the version of a view that was opened, shut, and the floor raised after it, which is not below a version, at this cost
 pub record ShowsAt (set : Settings) (callers : ℕ) (alone : Type 0) (c to : ℕ) (q : Query) (n : Counts) (reply : Reply) (h after : List Event) : Type 0 where
   pub version : ℕ
   pub views : Views alone c to h (Some version) after

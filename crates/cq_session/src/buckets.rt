@@ -7,7 +7,7 @@ use cq_projects::ProjectFiles;
 use cq_shard::Indexed;
 use std::alloc::Global;
 
-/// The buckets of a project's files in a view that the pass has open. It is ready where `files` are those that the view's
+/// The buckets of a project's files in a view that the pass has open. It is ready if `files` are those that the view's
 /// listing has of one project.
 #[derive(Drop)]
 pub struct PassBuckets<'a, W: Indexed, H: Hub<W>> {

@@ -32,7 +32,7 @@ module _ (xs ys : List ℕ) (up : IsStrictlyIncreasing xs) (part_up : IsStrictly
       let h = rises xs up (i + 1 + g) k (omega (arith, on)) inside in
       (omega (arith, on, inside), omega (arith, h, is))
 
-  -- where it stands further on, it does so behind the next
+  -- where it stands further on, it does so after the next
   past : (i g : ℕ) → i < length ys → i + g < length xs → get_or xs (i + g) 0 < get_or ys i 0 → (i + (g + 1) < length xs) × (get_or xs (i + (g + 1)) 0 ≤ get_or ys i 0)
   past i g here within less =
       let (k, inside, is) = place i here in
@@ -84,7 +84,7 @@ module _ (xs ys : List ℕ) (up : IsStrictlyIncreasing xs) (part_up : IsStrictly
       (λ (no : get_or ys i 0 ≤ get_or xs (i + g) 0). omega (arith, low, no))
       (cases_lt (get_or xs (i + g) 0) (get_or ys i 0))
 
-  -- behind the first that is not alike one more is gone
+  -- after the first that is not alike one more is gone
   pub next_behind : (g at to : ℕ) → IsBehind xs ys g at → AreAlikeUpTo xs ys g at to → IsBehind xs ys (g + 1) to
   next_behind g at to behind alike here =
       let begins = alike.begins in

@@ -34,7 +34,7 @@ stretch_same xs ys a b n within inside same =
     ∙ get_or_default ys (b + k) 0 d (omega (arith, near, inside))
     ∙ sym (get_or-word ys b n k d near))
 
--- So many are gone, and the first to be kept stand in front, as many as there are up to a place; behind what is gone nothing
+-- So many are gone, and the first to be kept stand in front, as many as there are up to a place; after what is gone nothing
 -- has moved.
 pub record IsClosing (old keep now : List ℕ) (gone at : ℕ) : Type 0 where
   pub low : at ≤ length keep
@@ -124,7 +124,7 @@ module _ (old keep : List ℕ) (more : ℕ) (within : length keep + more ≤ len
                 ∙ ap (λ k. drop (k + (gone + 1)) old) end;
           })
 
-  -- behind the last that goes all stands alike
+  -- after the last that goes all stands alike
   pub rest_stands : (at : ℕ) → at ≤ length keep → IsBehind front keep more at → take at keep ++ drop (at + more) old ≡ keep ++ drop (length keep + more) old
   rest_stands at low behind =
       let left = length keep - at in

@@ -1,4 +1,4 @@
--- The entries with a key in a run: they stand together, behind those with lesser keys.
+-- The entries with a key in a run: they stand together, after those with lesser keys.
 use Rattle.std.proofs.Common.{◌≡◌, ◌≢◌, ℕ, ◌+◌, ◌-◌, ◌<◌, ◌≤◌, Bool, true, false, cond, nat_lt, List, [], ◌∷◌, ◌++◌, length, take, drop, filter, get_or, refl, sym, ap, ◌∙◌, subst, subst₂, ⊎_elim, arith}
 use Rattle.std.specs.Prelude.{All, Contains}
 use Rattle.std.specs.List.{AllWithin}
@@ -44,7 +44,7 @@ run_behind rows i run j k d lt within =
     let many = length-drop i rows in
     subst₂ RowBefore (sym (get_or-drop i rows j d)) (sym (get_or-drop i rows k d)) (run (i + j) (i + k) d (omega (arith, lt)) (omega (arith, many, within)))
 
--- so one with a lesser key has lesser ones before it, and one with no lesser key no lesser ones behind it
+-- so one with a lesser key has lesser ones before it, and one with no lesser key no lesser ones after it
 before_lesser : (rows : List Entry) (key at : ℕ) (d : Entry) → IsRun rows → at < length rows → (get_or rows at d).key < key → AllWithin (λ e. e.key < key) rows 0 (at + 1)
 before_lesser rows key at d run within lesser k z low lt =
     let here : get_or rows at z ≡ get_or rows at d = get_or_default rows at z d within in
@@ -125,7 +125,7 @@ module _ (rows : List Entry) (key from to n : ℕ) (near : IsNear rows key from 
 pub parted_between : (rows : List Entry) (key from n : ℕ) → IsRun rows → IsPartitionedBy (λ e. nat_lt e.key key) (take n (drop from rows))
 parted_between rows key from n run = parted (take n (drop from rows)) key (run_front (drop from rows) n (run_behind rows from run))
 
--- so those asked for are all behind them
+-- so those asked for are all after them
 pub asked_behind : (rows : List Entry) (i key : ℕ) (live : List ℕ) → All (λ e. e.key < key) (take i rows) → filter (is_asked key live) (drop i rows) ≡ filter (is_asked key live) rows
 asked_behind rows i key live lesser =
     sym (
@@ -134,7 +134,7 @@ asked_behind rows i key live lesser =
     ∙ ap (λ es. es ++ filter (is_asked key live) (drop i rows)) (none_kept (is_asked key live) (take i rows) (λ e c. other_key key live e (λ same. let lt = All-contains (λ (w : Entry). w.key < key) (take i rows) e lesser c in omega (arith, lt, same))))
     )
 
--- and behind one with a greater key none is asked for
+-- and after one with a greater key none is asked for
 none_behind : (row : Entry) (rows : List Entry) (key : ℕ) (live : List ℕ) → IsRun (row ∷ rows) → key < row.key → filter (is_asked key live) (row ∷ rows) ≡ []
 none_behind row rows key live run more =
     none_kept (is_asked key live) (row ∷ rows) (λ e c. other_key key live e (λ same. ⊎_elim
@@ -155,6 +155,6 @@ pub none_among : (P : ℕ → Type 0) (rows : List Entry) (key : ℕ) (live : Li
 none_among P rows key live all none =
     none_kept (is_asked key live) rows (λ e c. other_key key live e (λ same. none (subst P same (All-contains (λ (w : Entry). P w.key) rows e all c))))
 
--- all behind a place, as a slice has it
+-- all after a place, as a slice has it
 pub whole_rest : {X : Type 0} (xs : List X) (i : ℕ) → take (length xs - i) (drop i xs) ≡ drop i xs
 whole_rest xs i = let many = length-drop i xs in take_all (length xs - i) (drop i xs) (omega (arith, many))

@@ -1,4 +1,4 @@
--- What a sweep leaves of the puts: those to keep up to the floor, and all behind it.
+-- What a sweep leaves of the puts: those to keep up to the floor, and all after it.
 use Rattle.std.proofs.Common.{◌≡◌, ℕ, ◌+◌, ◌-◌, ◌<◌, ◌≤◌, Bool, nat_le, List, ◌++◌, length, take, drop, filter, sym, ap₂, ap, ◌∙◌, subst, ⊎_elim, arith, append-nil}
 use Rattle.std.specs.Prelude.{All, Contains}
 use Rattle.std.specs.List.Sorted.{IsStrictlyIncreasing, IsPartitionedBy}
@@ -123,7 +123,7 @@ all_stay changes keep floor up keep_up known number =
     let same = part_is_all changes keep up keep_up known number in
     left_same (λ n. stays floor keep n) changes (λ n c. stays_kept floor keep n (subst (λ ns. Contains ns n) same c))
 
--- what is cut behind a last number
+-- what is cut after a last number
 pub cut_is : (xs : List ℕ) (last many : ℕ) → IsUpTo xs last many → take many xs ≡ no_later last xs
 cut_is xs last many up_to = sym (
     ap (filter (λ n. nat_le n last)) (sym (take-append-drop many xs))
@@ -133,7 +133,7 @@ cut_is xs last many up_to = sym (
     (none_kept (λ n. nat_le n last) (drop many xs) (λ n c. false_from_ne_true (nat_le n last) (λ h. let low = leb-true n last h in let high = rest_above xs last many up_to n c in omega (arith, low, high))))
     ∙ append-nil (take many xs))
 
--- where none is behind a last number but for some that came behind, these are cut
+-- if none is after a last number but for some that came later, these are cut
 pub cut_back : (old more : List ℕ) (last many : ℕ) → All (λ n. n ≤ last) old → All (λ n. last < n) more → no_later last (old ++ take many more) ≡ old
 cut_back old more last many low high =
     filter-append (λ n. nat_le n last) old (take many more)

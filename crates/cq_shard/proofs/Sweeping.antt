@@ -1,4 +1,4 @@
--- What a shard stands for behind a sweep.
+-- What a shard stands for after a sweep.
 use Rattle.std.proofs.Common.{◌≢◌, ℕ, ◌<◌, ◌≤◌, List, [], subst, ⊎_elim, arith, append-nil}
 use Rattle.std.specs.Prelude.{◌⊎◌, ◌↔◌, Contains}
 use Rattle.std.proofs.lemmas.Bool.{cases_lt}

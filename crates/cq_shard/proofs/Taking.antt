@@ -60,7 +60,7 @@ module _ {W : Type 0} where
   put_is change None n c = absurd (Contains-nil n c)
   put_is change (Some w) n c = ⊎_elim (λ same. sym same) (λ none. absurd (Contains-nil n none)) (Contains-cases change n [] c)
 
-  -- they rise behind those before
+  -- they rise after those before
   pub put_rises : (puts : List ℕ) (applied change : ℕ) (work : Option W) → applied < change → IsStrictlyIncreasing puts → All (λ n. n ≤ applied) puts → IsStrictlyIncreasing (puts ++ put_of change work) × All (λ n. n ≤ change) (puts ++ put_of change work)
   put_rises puts applied change None above up low =
       subst (λ ns. IsStrictlyIncreasing ns × All (λ n. n ≤ change) ns) (sym (append-nil puts))

@@ -1,6 +1,6 @@
 -- What a sweep takes out of blocks, block by block.
 use Rattle.std.proofs.Common.{◌≡◌, ℕ, ◌+◌, ◌-◌, ◌<◌, ◌≤◌, Bool, cond, ◌||◌, nat_lt, List, [], ◌∷◌, ◌++◌, length, filter, take, drop, get_or, refl, sym, ap, ◌∙◌, subst, inl, inr, ⊎_elim, arith}
-use Rattle.std.specs.Prelude.{All, Contains}
+use Rattle.std.specs.Prelude.{Contains}
 use Rattle.std.specs.List.Sorted.{IsStrictlyIncreasing}
 use Rattle.std.proofs.lemmas.Bool.{eqb-true}
 use Rattle.std.proofs.lemmas.Grind.{flat_map-append}
@@ -43,7 +43,7 @@ known_here puts keep k some known up_to n c =
     (λ above. let less = All-contains (λ m. m < n) puts (last_in puts) above (last_there puts some) in absurd (omega (arith, less, low)))
     (known n there)
 
--- a place behind which the last of some numbers is found
+-- a place after which the last of some numbers is found
 pub near_is : (numbers : List ℕ) (place last : ℕ) → 0 < place → place ≤ length numbers → IsStrictlyIncreasing numbers → get_or numbers (place - 1) 0 ≡ last → IsUpTo numbers last place
 near_is numbers place last some within up is = record {
   within = within;
@@ -57,8 +57,8 @@ near_is numbers place last some within up is = record {
       omega (arith, e, h, is);
 }
 
--- So many of those to keep are behind: the others are of the blocks from a place on, and above none of these blocks' puts
--- is one of those that are behind.
+-- So many of those to keep are passed: the others are of the blocks from a place on, and above none of these blocks' puts
+-- is one of those that are passed.
 pub record IsRestOf (blocks : List Block) (keep : List ℕ) (i kept : ℕ) : Type 0 where
   pub within : kept ≤ length keep
   pub rest : AreAmong (drop kept keep) (puts_in (drop i blocks))

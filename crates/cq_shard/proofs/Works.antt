@@ -1,4 +1,4 @@
--- The entries that works bring, and for which changes a shard stands behind all of them.
+-- The entries that works bring, and for which changes a shard stands after all of them.
 use Rattle.std.proofs.Common.{◌≡◌, ◌≢◌, ℕ, suc, ◌+◌, ◌<◌, ◌≤◌, Option, Some, None, List, [], ◌∷◌, ◌++◌, length, get_or, refl, sym, ap, subst, subst₂, inl, ⊎_elim, arith}
 use Rattle.std.specs.Prelude.{All, AllPairs, Contains}
 use Rattle.std.specs.List.Sorted.{IsStrictlyIncreasing}
@@ -78,7 +78,7 @@ module _ {W : Type 0} (keys_in : W → List ℕ) (s : Stored) (shard shards : �
     each = All-from_contains (λ (e : Entry). Contains (puts_among s.applied works) e.change) (all_brought keys_in s.applied shard shards works) (λ e c. brought_puts keys_in s.applied shard shards works e c);
   }
 
--- ---- what stands behind them
+-- ---- what comes after them
 
 -- the old entries and later ones in order are each there once
 added_behind : (old more : List Entry) → Precedes old more → AllPairs EntryBefore more → AreAdded old more (old ++ more)

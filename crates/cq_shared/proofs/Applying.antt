@@ -50,7 +50,7 @@ module _ {W : Type 0} (keys_in : W → List ℕ) (IsWork : Lang → List ℕ →
     pub few_keys : All HasFewKeys slice
     few_keys = subst (All HasFewKeys) (sym is) (All-cons HasFewKeys (get_or works (applied - base) d) [] (All-get_or HasFewKeys works (applied - base) d within are.few) (All-nil HasFewKeys))
 
-    -- behind later changes, too
+    -- after later changes, too
     pub its_work : (later : List Change) → applied < length changes → HaveTheirWorks IsOwned (changes ++ later) applied slice
     its_work later near =
         let at : base + (applied - base) ≡ applied = omega (arith, low) in

@@ -7,7 +7,7 @@ use Rattle.cq_base.specs.declared.memory.Memory.{Memory}
 use Rattle.cq_base.specs.declared.change.Change.{Change}
 use Rattle.cq_base.specs.declared.settings.Settings.{Settings}
 use Rattle.cq_history.specs.declared.event.Event.{Event}
-use Rattle.cq_history.specs.declared.event.Event.TheVariants.{Accept, Ask, Took, Back, Done, Publish, Open, Shut, Floor}
+use Rattle.cq_history.specs.declared.event.Event.TheVariants.{Accept, Ask, Took, Back, Done, Open, Shut}
 use Rattle.cq_history.specs.State.{State, state, own, maker, is_by, accepted, ready, slot_of, view_of, IsAccepted, IsDone}
 use Rattle.cq_history.specs.Lawful.{Lawful}
 use Rattle.cq_history.proofs.Prefixes.{own-append, accepted-append}
@@ -124,7 +124,7 @@ module _ {W R : Type 0} (hub : Shared W R) (p m q : BoardPass) (is : IsPassOf hu
   pass_of : IsPassOf hub q
   pass_of = record { of = of; free = free; shards = is.shards; some_shard = is.some_shard }
 
-  -- behind the event of a deed
+  -- after the event of a deed
   pub called : (d : Deed) (Says : List Event → Type 0) → q.seen ≡ m.seen ++ option_to_list (event_of (by_of m) d) → Says m.seen → Calls hub p q (option_to_list (event_of (by_of p) d)) Says
   called d Says seen says =
       let here : q.seen ≡ m.seen ++ option_to_list (event_of (by_of p) d) = seen ∙ ap (λ n. m.seen ++ option_to_list (event_of n d)) same_by in
@@ -155,7 +155,7 @@ module _ {W R : Type 0} (hub : Shared W R) (p m q : BoardPass) (is : IsPassOf hu
         ended = ended_after p m.seen is.of.apart owns (Accept (by_of p) change ∷ []) q.seen (λ c other. own_other c (by_of p) (Accept (by_of p) change) other refl) here;
       }
 
-  -- behind an event that is nobody's, as a publication and a floor are
+  -- after an event that is nobody's, as a publication and a floor are
   pub called_nobodys : (e : Event) (Says : List Event → Type 0) → maker e ≡ None → q.seen ≡ m.seen ++ e ∷ [] → Says (m.seen ++ e ∷ []) → Calls hub p q [] Says
   called_nobodys e Says nobodys seen says = record {
     mid = m.seen ++ e ∷ [];
@@ -192,7 +192,7 @@ module _ {W R : Type 0} (hub : Shared W R) where
     ended = subst (λ l. AllByRecursion (λ (c : ℕ). own c l ≡ own c p.seen) (ended_in p)) (sym seen) (all_same p.seen (ended_in p));
   }
 
-  -- one call behind another, with nothing seen between
+  -- one call after another, with nothing seen between
   pub calls_join : (p a b q : BoardPass) (Says After : List Event → Type 0) → Calls hub p a [] Says → IsSameCaller a b → b.seen ≡ a.seen → Calls hub b q [] After → Calls hub p q [] After
   calls_join p a b q Says After one same seen two = record {
     mid = two.mid;

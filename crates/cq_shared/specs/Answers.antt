@@ -50,7 +50,7 @@ module _ {W R : Type 0} (hub : Shared W R) (p q : BoardPass) where
       MatchOption job (Calls hub p q [] (λ mid. IsNoneFree (state_of hub mid)))
       (λ j. Calls hub p q (event.Took (by_of p) j.change ∷ []) (λ mid. IsFirstFree (state_of hub mid) j))
 
-  -- where there is an answer, it is the job of the change, or none where that is done
+  -- if there is an answer, it is the job of the change, or none if that is done
   abbrev pub FindsJob : ℕ → Result (Option Job) Memory → Type 0
   FindsJob change result = Calls hub p q [] (λ mid. IfOk result (IsJobFor (state_of hub mid) change))
 
@@ -68,7 +68,7 @@ module _ {W R : Type 0} (hub : Shared W R) (p q : BoardPass) where
   abbrev pub FindsDone : ℕ → Type 0
   FindsDone change = Calls hub p q [] (λ mid. IsDone (state_of hub mid) change)
 
-  -- where there is an answer, it is the last published version, and at least this one
+  -- if there is an answer, it is the last published version, and at least this one
   abbrev pub Publishes : ℕ → Result ℕ Memory → Type 0
   Publishes to result = Calls hub p q [] (λ mid. IfOk result (HasPublished (state_of hub mid) to))
 
@@ -76,7 +76,7 @@ module _ {W R : Type 0} (hub : Shared W R) (p q : BoardPass) where
   abbrev pub Opens : (Settings → Lang → List ℕ → W → Type 0) → View W → Type 0
   Opens IsWorkOf view = Calls hub p q (event.Open (by_of p) view.version ∷ []) (λ mid. IsLatest (IsWorkOf (settings_of hub)) (state_of hub mid) view)
 
-  -- where there is an answer, its items are the entries with the key in all files of the view's version, by change and place
+  -- if there is an answer, its items are the entries with the key in all files of the view's version, by change and place
   abbrev pub Reads : Ghosts W → View W → ℕ → Result (Vec Entry Global) Memory → Type 0
   Reads of view key result =
       Calls hub p q [] (λ mid. IfOk result (λ entries. AreEntriesWith (HasWindow of.keys_in of.IsWorkOf (settings_of hub)) (accepted mid) view.version key entries.items))
@@ -85,7 +85,7 @@ module _ {W R : Type 0} (hub : Shared W R) (p q : BoardPass) where
   abbrev pub Shuts : Type 0
   Shuts = Calls hub p q (event.Shut (by_of p) ∷ []) (λ _. Unit {0})
 
-  -- the floor is the least of the published version and the open ones, and where there is an answer, it is that floor
+  -- the floor is the least of the published version and the open ones, and if there is an answer, it is that floor
   abbrev pub RaisesFloor : Type 0
   RaisesFloor = Calls hub p q [] (λ mid. (state_of hub mid).floor ≡ greatest_floor (state_of hub mid))
 
@@ -113,6 +113,6 @@ module _ {W R : Type 0} (hub : Shared W R) (p : BoardPass) where
   HasSeenItsWork IsWorkOf change work =
       HasSeen SharedStands hub p (λ _ h. IsAccepted (state_of hub h) change × IsWorkFor (IsWorkOf (settings_of hub)) (slot_of (state_of hub h) change).change (arc_value work))
 
--- a floor, and, where it is above another one, the puts that it keeps of what the pass has seen
+-- a floor, and, if it is above another one, the puts that it keeps of what the pass has seen
 abbrev pub KeepsAbove : ℕ → BoardPass → ℕ × List ℕ → Type 0
 KeepsAbove above p kept = above < kept.0 → AreKeptPuts (accepted p.seen) kept.0 kept.1

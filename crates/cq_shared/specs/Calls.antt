@@ -9,8 +9,8 @@ use Rattle.cq_hub.specs.Hubs.{Grows, Never}
 use Rattle.cq_shared.specs.declared.shared.Shared.{Shared}
 use Rattle.cq_shared.specs.SharedPasses.{IsPassOf, ended_in}
 
--- Others' events may come behind what the pass had seen; what the call answers is said of the history then, and the call's
--- own events come behind that at once. Of each caller that ended in the pass, the history has the events that the pass had
+-- Others' events may come after what the pass had seen; what the call answers is said of the history then, and the call's
+-- own events come after that at once. Of each caller that ended in the pass, the history has the events that the pass had
 -- seen, and no other.
 pub record Calls {W R : Type 0} (hub : Shared W R) (p q : BoardPass) (events : List Event) (Says : List Event → Type 0) : Type 0 where
   pub mid : List Event

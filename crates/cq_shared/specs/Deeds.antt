@@ -38,7 +38,7 @@ acceptance p change = event.Accept (by_of p) change ∷ []
 abbrev pub events_of : BoardPass → Deed → List Event
 events_of p deed = option_to_list (event_of (by_of p) deed)
 
--- what the pass has seen, and its caller's event behind that
+-- what the pass has seen, and its caller's event after that
 abbrev pub seen_with : BoardPass → Deed → List Event
 seen_with p deed = p.seen ++ events_of p deed
 

@@ -26,9 +26,9 @@ const GOLDEN: u32 = 2_654_435_769;
 impl<W: Indexed, R: Wait> Shared<W, R> {
     /// Publishes the changes up to a number, all of which are done, and answers the last published version. The board
     /// gives the owners of the works in one hold; each shard applies each further change in a hold of its own, with a
-    /// look at each key of its work; and the board publishes in another. Where they are published, the board makes the
-    /// listing anew in that hold, should memory have been refused while it was changed. Where memory is refused, some
-    /// shards may be further on than what is published. The gate is told of each shard that was brought up, while the
+    /// look at each key of its work; and the board publishes in another. If they are published, the board makes the
+    /// listing again in that hold, should memory have been refused while it was changed. If memory is refused, some
+    /// shards may be further on than what is published. The gate is called for each shard that was brought up, while the
     /// pass holds no cell.
     pub fn advance<G: Gate>(
         &self,
@@ -50,8 +50,8 @@ impl<W: Indexed, R: Wait> Shared<W, R> {
         self.publish(alloc, to, pass)
     }
 
-    // The last published version, and the works of the changes behind it up to another. Where that is published, the
-    // listing is made anew, should memory have been refused while it was changed.
+    // The last published version, and the works of the changes after it up to another. If that is published, the
+    // listing is made again, should memory have been refused while it was changed.
     fn works_up_to(
         &self,
         alloc: Global,
@@ -101,7 +101,7 @@ impl<W: Indexed, R: Wait> Shared<W, R> {
         self.commit_shards(first, self.shards, true, base, to, works, gate, pass)
     }
 
-    // The shards from one on and before another apply the changes up to one, the last shard first where they go down.
+    // The shards from one on and before another apply the changes up to one, the last shard first if they go down.
     fn commit_shards<G: Gate>(
         &self,
         from: u32,
@@ -199,7 +199,7 @@ impl<W: Indexed, R: Wait> Shared<W, R> {
         Ok(applied + 1 >= to)
     }
 
-    // Publishes the changes up to one, where another has not published as many.
+    // Publishes the changes up to one, if another has not published as many.
     fn publish(&self, alloc: Global, to: u64, pass: &mut Pass<W>) -> Result<u64, Memory>
         requires of { IsPassOf self.now pass.old }
         requires done { to ≤ ready (state_of self.now pass.old.seen) }
@@ -228,7 +228,7 @@ impl<W: Indexed, R: Wait> Shared<W, R> {
     }
 }
 
-// Makes the listing of a board anew where a version is published already, should memory have been refused while it was
+// Makes the listing of a board again if a version is published already, should memory have been refused while it was
 // changed. A later version's publication makes it else.
 fn relist_where_published<W: Indexed>(board: &mut Board<W>, to: u64) -> Result<(), Memory>
     ensures { board.new ≡ board.old }

@@ -120,7 +120,7 @@ impl<W: Indexed, R: Wait> Shared<W, R> {
         }
     }
 
-    /// The job of an accepted change, for anybody who helps; none where the change is done.
+    /// The job of an accepted change, for anybody who helps; none if the change is done.
     pub fn job(&self, change: u64, pass: &mut Pass<W>) -> Result<Option<Job>, Memory>
         requires of { IsPassOf self.now pass.old }
         requires accepted { IsAccepted (state_of self.now pass.old.seen) change }
@@ -173,8 +173,8 @@ impl<W: Indexed, R: Wait> Shared<W, R> {
         }
     }
 
-    /// Opens a view of the last published version, where this caller has none open. Where memory was refused in the
-    /// middle of a publication and no `advance` came through since, it tells so again.
+    /// Opens a view of the last published version, if this caller has none open. If memory was refused in the
+    /// middle of a publication and no `advance` came through since, it reports that again.
     pub fn open_view(&self, pass: &mut Pass<W>) -> Result<View<W>, Memory>
         requires of { IsPassOf self.now pass.old }
         requires closed { view_of (state_of self.now pass.old.seen) (by_of pass.old) ≡ None }

@@ -19,8 +19,8 @@ use std::sync::atomic::Ordering;
 
 impl<W: Indexed, R: Wait> Shared<W, R> {
     /// Gives up the versions below the published one and each open one, sweeps each shard that was not swept so far, and
-    /// answers the floor. The board sets it in one hold, and tells the puts that it keeps; each shard is swept in a hold
-    /// of its own. Where all were swept up to this floor, no shard is taken, and no memory. Where memory is refused, no
+    /// answers the floor. The board sets it in one hold, and gives the puts that it keeps; each shard is swept in a hold
+    /// of its own. If all were swept up to this floor, no shard is taken, and no memory. If memory is refused, no
     /// shard is swept. The listing that has those puts' numbers has an owner more until all shards are swept.
     pub fn sweep(&self, alloc: Global, pass: &mut Pass<W>) -> Result<u64, Memory>
         requires of { IsPassOf self.now pass.old }
@@ -38,8 +38,8 @@ impl<W: Indexed, R: Wait> Shared<W, R> {
         Ok(floor)
     }
 
-    // Sets the greatest floor that there may be, in one hold of the board. Where it is above another one, the puts that
-    // it keeps are told.
+    // Sets the greatest floor that there may be, in one hold of the board. If it is above another one, the puts that
+    // it keeps are returned.
     fn raise_floor(
         &self,
         alloc: Global,
@@ -77,7 +77,7 @@ impl<W: Indexed, R: Wait> Shared<W, R> {
         }
     }
 
-    // The shard is swept up to the floor but for the puts that this keeps, where it was not.
+    // The shard is swept up to the floor but for the puts that this keeps, if it was not.
     fn sweep_shard(&self, number: u32, floor: u64, keep: &[u64], pass: &mut Pass<W>)
         requires of { IsPassOf self.now pass.old }
         requires number { number < (settings_of self.now).shards }
@@ -92,7 +92,7 @@ impl<W: Indexed, R: Wait> Shared<W, R> {
     }
 }
 
-// The puts that the board's floor keeps. Where it is no higher than another one, nothing is looked for, and no memory taken.
+// The puts that the board's floor keeps. If it is no higher than another one, nothing is looked for, and no memory taken.
 fn keep_above<W: Indexed>(alloc: Global, board: &Board<W>, above: u64) -> Result<Keep<W>, Memory>
     ensures { IfOk result (λ keep. above < board.now.state.floor → KeepsPuts board.now.state keep) }
 {

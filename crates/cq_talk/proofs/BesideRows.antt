@@ -108,7 +108,7 @@ module _ (set : Settings) (callers : ℕ) (alone : Type 0) (c : ℕ) where
   pub keeps_serving : (seen : ℕ) (q : Query) (h later : List Event) (view : Option ℕ) → IsServed set callers alone c seen q h later view → Fair set callers c later → Keeps callers h later
   keeps_serving seen q h later view is fair = keeps h later _ (served_accept_none c is.finished view) (served_grows set callers alone c seen q h later view is) fair
 
-  -- behind a view that the caller shut, the greatest floor is the published version
+  -- after a view that the caller shut, the greatest floor is the published version
   pub served_greatest : (seen : ℕ) (q : Query) (h later : List Event) (v : ℕ) → IsServed set callers alone c seen q h later (Some v) → Fair set callers c later → greatest_floor (state callers later) ≡ (state callers later).published
   served_greatest seen q h later v is fair =
       let grows = served_grows set callers alone c seen q h later (Some v) is in

@@ -6,7 +6,7 @@ use mathlib.Core.List.{IsPrefix}
 use Rattle.cq_base.specs.declared.settings.Settings.{Settings}
 use Rattle.cq_history.specs.declared.event.Event.{Event}
 use Rattle.cq_history.specs.declared.event.Event.TheVariants.{Accept, Ask, Took, Back, Done, Publish, Open, Shut, Floor}
-use Rattle.cq_history.specs.State.{accepted, own, maker, is_by}
+use Rattle.cq_history.specs.State.{own, maker, is_by}
 use Rattle.cq_history.specs.Lawful.{Lawful}
 use Rattle.cq_history.proofs.States.{Lawful-prefix}
 use Rattle.cq_hub.proofs.Growing.{all-append}

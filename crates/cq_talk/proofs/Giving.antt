@@ -12,7 +12,7 @@ use Rattle.cq_talk.specs.Beside.{Known, known_then, IsReplyBeside, IsChangedBesi
 use Rattle.cq_talk.specs.Gives.{BesideGives, changes, asks, asks_state}
 use Rattle.cq_talk.proofs.Shown.{shown_version, shown_no_pending}
 
--- a reply that isn't want of memory
+-- a reply that does not report out of memory
 replies : (set : Settings) (k : Known) (l : Said) (r : Reply) → (r ≡ reply.Memory → ⊥) → (WasRead l × (r ≡ reply.Memory)) ⊎ IsReplyBeside set k l r → IsReplyBeside set k l r
 replies set k l r no_memory (inl memory) = absurd (no_memory memory.1)
 replies set k l r no_memory (inr is) = is

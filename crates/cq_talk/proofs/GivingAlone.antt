@@ -41,7 +41,7 @@ refused_for : (k after : Walk) (change : Change) (cause : Refused) (why : Option
 refused_for k after change cause None told is = absurd (no_number cause (length k.changes + 1) told)
 refused_for k after change cause (Some why) told is = is
 
--- what the walk comes to behind an answer
+-- what the walk comes to after an answer
 shown : (set : Settings) (k after : Walk) (q : Query) (r : Reply) → 0 < version_in r → IsAnsweredAlone set k q r after → (version_in r ≡ length k.changes) × (after ≡ all_published k)
 shown set k after q r some (inl is) = let none : version_in r ≡ 0 = ap version_in is.1 in absurd (omega (arith, some, none))
 shown set k after q r some (inr (inl is)) = let none : version_in r ≡ 0 = ap version_in is.3 in absurd (omega (arith, some, none))
@@ -53,7 +53,7 @@ pending set k after q n (inr (inl is)) = let e = is.3 in (is.1, cc (e), is.2)
 pending set k after q n (inr (inr is)) = absurd (shown_no_pending set k.changes (length k.changes) q (reply.Pending n) is.2 n refl)
 
 module _ (set : Settings) where
-  -- the first reply, where it isn't want of memory, and the walk behind it
+  -- the first reply, if it does not report out of memory, and the walk after it
   first : (k : Walk) (l : Said) (lines : List Said) (r : Reply) (replies : List Reply) → (r ≡ reply.Memory → ⊥) → IsAloneUpToMemory set k (l ∷ lines) (r ∷ replies) → (after : Walk) × IsReplyAlone set k l r after × IsAloneUpToMemory set after lines replies
   first k l lines r replies no_memory (inl memory) = absurd (no_memory memory.1)
   first k l lines r replies no_memory (inr one) = one
@@ -64,7 +64,7 @@ module _ (set : Settings) where
       let e = one.1.0 in
       (cc (e), cc (e), cc (e))
 
-  -- the state that is told behind a walk that is known
+  -- the state that is told after a walk that is known
   told_of : (k t : Walk) (a d p : ℕ) → t ≡ k → IsAloneUpToMemory set t (asks_state ∷ []) (reply.State a d p ∷ []) → (a ≡ length k.changes) × (d ≡ k.done) × (p ≡ k.published)
   told_of k t a d p same is = told k a d p (subst (λ w. IsAloneUpToMemory set w (asks_state ∷ []) (reply.State a d p ∷ [])) same is)
 

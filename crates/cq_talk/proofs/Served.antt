@@ -27,7 +27,7 @@ use Rattle.cq_talk.proofs.Unmade.{IsUnmade, published_unmade, following_unmade, 
 pub asks_grow : (alone : Type 0) (c : ℕ) (h later : List Event) → Asks alone c h later → Grows alone Never c h later (Ask c ∷ [])
 asks_grow alone c h later asks = subst (λ g. Grows alone Never c h g (Ask c ∷ [])) (sym asks.asks) (grows_event alone c Never h asks.mid (Ask c) refl asks.waits)
 
--- ---- the caller's own events behind its question
+-- ---- the caller's own events after its question
 
 abbrev pub works_and_view : ℕ → List ℕ → Option ℕ → List Event
 works_and_view c rs view = map (λ r. Done c r) rs ++ viewed c view
@@ -45,7 +45,7 @@ pub served_accept_none : (c : ℕ) (rs : List ℕ) (view : Option ℕ) → accep
 served_accept_none c rs view = accepted-append (map (λ r. Done c r) rs) (viewed c view) ∙ ap₂ (λ xs ys. xs ++ ys) (works_accept_none c rs) (view_accepts_none c view)
 
 module _ (set : Settings) (callers : ℕ) (alone : Type 0) (c seen : ℕ) (q : Query) (h later : List Event) (view : Option ℕ) (is : IsServed set callers alone c seen q h later view) where
-  -- behind the question
+  -- after the question
   pub asked_grows : Grows alone IsUnmade c is.asked later (works_and_view c is.finished view)
   asked_grows =
       grows_as alone c IsUnmade is.asked later _ _ (ap (λ es. map (λ r. Done c r) is.finished ++ es) (append-nil (viewed c view)))

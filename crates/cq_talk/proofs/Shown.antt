@@ -1,4 +1,4 @@
--- An answer names its version, and depends on no change behind that.
+-- An answer names its version, and depends on no change after that.
 use Rattle.std.proofs.Common.{◌≡◌, ℕ, ◌≤◌, Bool, List, ◌++◌, length, refl, sym, ap, ◌∙◌, subst}
 use Rattle.cq_base.specs.declared.settings.Settings.{Settings}
 use Rattle.cq_base.specs.declared.change.Change.{Change}

@@ -1,4 +1,4 @@
--- The replies of a server alone: what they are is walked from line to line.
+-- The replies of a server without workers, to its only user: what they are is walked from line to line.
 use Rattle.std.specs.Prelude.{◌≡◌, ◌⊎◌, ℕ, ◌+◌, ◌<◌, ◌≤◌, nat_lt, ◌||◌, if◌then◌else◌, false, List, [], ◌∷◌, ◌++◌, length, Option, Some, None, Ok, Err}
 use Rattle.cq_base.specs.declared.settings.Settings.{Settings}
 use Rattle.cq_base.specs.declared.change.Change.{Change}
@@ -62,7 +62,7 @@ IsReplyAlone set k (Read (Ok (request.Change change))) r after = IsChangedAlone 
 IsReplyAlone set k (Read (Ok (request.Query q))) r after = IsAnsweredAlone set k q r after
 IsReplyAlone set k (Read (Ok request.State)) r after = (r ≡ reply.State (length k.changes) k.done k.published) × (after ≡ k)
 
--- The replies of a server alone with ample memory: each line has its reply. From the first reply that reports out of
+-- The replies of a server without workers, with ample memory: each line has its reply. From the first reply that reports out of
 -- memory on, nothing is said but that there is one for each line.
 abbrev pub IsAloneUpToMemory : Settings → Walk → List Said → List Reply → Type 0
 IsAloneUpToMemory set k [] [] = Unit {0}

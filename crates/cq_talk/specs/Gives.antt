@@ -1,4 +1,4 @@
--- What a user of a server may conclude from its replies, with workers beside it or alone.
+-- What a user of a server may conclude from its replies, with workers beside it or without.
 use Rattle.std.specs.Prelude.{◌≡◌, ℕ, ◌+◌, ◌<◌, ◌≤◌, false, List, [], ◌∷◌, ◌++◌, length, Ok}
 use Rattle.cq_base.specs.declared.settings.Settings.{Settings}
 use Rattle.cq_base.specs.declared.change.Change.{Change}

@@ -25,7 +25,7 @@ ActsBy c (Open by p) = by ≡ c
 ActsBy c (Shut by) = Unit {0}
 ActsBy c (Floor f) = Unit {0}
 
--- with a hub that nobody else calls, its replies are those of a server alone
+-- with a hub that nobody else calls, its replies are those of a server without workers
 abbrev pub TalksAlone : Type 0
 TalksAlone = (set : Settings) (callers c : ℕ) (after : List Event) (lines : List Said) (replies : List Reply) → Talk set callers (Unit {0}) c 0 [] lines replies after → Lawful set callers after → IsAloneUpToMemory set no_walk lines replies
 
@@ -33,14 +33,14 @@ TalksAlone = (set : Settings) (callers c : ℕ) (after : List Event) (lines : Li
 abbrev pub TalksBeside : Type 0
 TalksBeside = (set : Settings) (callers c : ℕ) (after : List Event) (lines : List Said) (replies : List Reply) → Talk set callers ⊥ c 0 [] lines replies after → Lawful set callers after → AllByRecursion (ActsBy c) after → IsBeside set nothing_known lines replies
 
--- and a server alone is one with no workers beside it
+-- and so are those with a hub that nobody else calls
 abbrev pub TalksAloneBeside : Type 0
 TalksAloneBeside = (set : Settings) (callers c : ℕ) (after : List Event) (lines : List Said) (replies : List Reply) → Talk set callers (Unit {0}) c 0 [] lines replies after → Lawful set callers after → IsBeside set nothing_known lines replies
 
 abbrev pub IsNoMemory : Reply → Type 0
 IsNoMemory r = r ≡ reply.Memory → ⊥
 
--- the replies of a server alone are among those of one with workers beside it
+-- the replies of a server without workers are among those of one with workers beside it
 abbrev pub AloneIsBeside : Type 0
 AloneIsBeside = (set : Settings) (lines : List Said) (replies : List Reply) → IsAloneUpToMemory set no_walk lines replies → AllByRecursion IsNoMemory replies → IsBeside set nothing_known lines replies
 

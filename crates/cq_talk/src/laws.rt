@@ -1,8 +1,8 @@
 ghost use Rattle.cq_talk.specs.Gathered as gathered;
 ghost use Rattle.cq_talk.specs.Laws as law;
 
-/// A talk with a hub that nobody else calls, from the empty history on, is that of a server alone, up to the first reply
-/// that reports out of memory.
+/// A talk with a hub that nobody else calls, from the empty history on, is that of a server without workers, up to the first
+/// reply that reports out of memory.
 pub fn talks_alone()
     ensures { law.TalksAlone }
 {}
@@ -14,7 +14,7 @@ pub fn talks_beside()
     ensures alone { law.TalksAloneBeside }
 {}
 
-/// The replies of a server alone are among those of one with workers beside it.
+/// The replies of a server without workers are among those of one with workers beside it.
 pub fn alone_is_beside()
     ensures { law.AloneIsBeside }
 {}
@@ -24,7 +24,7 @@ pub fn beside_gives()
     ensures { law.AllGivenBeside }
 {}
 
-/// What a user of a server alone may conclude from its replies.
+/// What the only user of a server without workers may conclude from its replies.
 pub fn alone_gives()
     ensures { law.AllGivenAlone }
 {}

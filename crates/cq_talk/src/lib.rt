@@ -1,5 +1,5 @@
 //! One caller's talk with a hub: which replies its lines have, over a history that grows, and what that comes to for a user
-//! of a server, alone or with workers beside it. There is no code here but laws: functions without a body whose clauses
+//! of a server, with workers beside it or without. There is no code here but laws: functions without a body whose clauses
 //! say what holds of each talk.
 #![tactic(auto)]
 

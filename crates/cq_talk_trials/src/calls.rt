@@ -18,9 +18,9 @@ const SETTINGS: Settings = Settings {
     byte_limit: 1_048_576,
 };
 
-// The lines of a talk, each with the calls of the gate that come before its reply, behind a tab. An upload makes no work.
+// The lines of a talk, each with the calls of the gate that come before its reply, after a tab. An upload makes no work.
 // A query makes that of each upload that has none, the last one first, and of no other change; it brings up both shards
-// where its version is not the published one; and what is refused calls nothing.
+// if its version is not the published one; and what is refused calls nothing.
 const TALK: &str = "\
 {\"op\":\"put\",\"project\":\"p\",\"path\":\"a\",\"lang\":\"any\",\"text\":\"a b a b\"}\t accept 1
 {\"op\":\"put\",\"project\":\"p\",\"path\":\"b\",\"lang\":\"any\",\"text\":\"a b\"}\t accept 2

@@ -2,7 +2,7 @@ ghost use Rattle.std.specs.Prelude.{◌≡◌, []};
 ghost use Rattle.cq_base.specs.Settings.{IsInRange};
 ghost use Rattle.cq_shared.specs.SharedPasses.{IsPassOf, settings_of};
 
-use crate::running::{Outcome, conversed_over};
+use crate::running::{Floor, Outcome, conversed_over};
 use cq_base::{Counters, Memory, Settings, Steps};
 use cq_chain::Pass;
 use cq_io::{Gate, MemSink, MemSource, Sink, Source};
@@ -29,57 +29,38 @@ pub(crate) const SETTINGS: Settings = Settings {
 
 /// How the session of a caller who has seen nothing ends.
 pub(crate) fn conversed<Q: Threads + Sync, L: Ledger, R: Wait, S: Source, K: Sink, G: Gate>(
-    rt: &Q,
-    alloc: Global,
-    settings: &Settings,
-    hub: &Shared<Work<L>, R>,
+    floor: &Floor<'_, Q, Shared<Work<L>, R>, G>,
     counters: &Counters<L>,
-    gate: &G,
     source: &mut S,
     sink: &mut K,
     mut pass: Pass<Work<L>>,
 ) -> Result<End, Memory>
-    requires in_range { IsInRange settings.now }
-    requires hub_settings { settings_of hub.now ≡ settings.now }
-    requires of { IsPassOf hub.now pass }
+    requires in_range { IsInRange floor.now.settings.now }
+    requires hub_settings { settings_of floor.now.hub.now ≡ floor.now.settings.now }
+    requires of { IsPassOf floor.now.hub.now pass }
     requires fresh { pass.seen ≡ [] }
 {
     let mut steps: Steps<L> = counters.counter();
-    conversed_over(
-        rt, alloc, settings, hub, gate, source, sink, &mut pass, &mut steps,
-    )
+    conversed_over(floor, source, sink, &mut pass, &mut steps)
 }
 
 /// The same, and what it writes for an input.
 pub(crate) fn ended<Q: Threads + Sync, L: Ledger, R: Wait, G: Gate>(
-    rt: &Q,
-    alloc: Global,
-    settings: &Settings,
-    hub: &Shared<Work<L>, R>,
+    floor: &Floor<'_, Q, Shared<Work<L>, R>, G>,
     counters: &Counters<L>,
-    gate: &G,
     input: &[u8],
     pass: Pass<Work<L>>,
 ) -> Result<Outcome, Memory>
-    requires in_range { IsInRange settings.now }
-    requires hub_settings { settings_of hub.now ≡ settings.now }
-    requires of { IsPassOf hub.now pass }
+    requires in_range { IsInRange floor.now.settings.now }
+    requires hub_settings { settings_of floor.now.hub.now ≡ floor.now.settings.now }
+    requires of { IsPassOf floor.now.hub.now pass }
     requires fresh { pass.seen ≡ [] }
 {
+    let alloc = floor.alloc;
     let bytes = Vec::from_slice(alloc, input)?;
     let mut source = MemSource::new(bytes, 97, Vec::new(alloc));
     let mut sink = MemSink::new(alloc, 1_048_576, 89, Vec::new(alloc))?;
-    let end = conversed(
-        rt,
-        alloc,
-        settings,
-        hub,
-        counters,
-        gate,
-        &mut source,
-        &mut sink,
-        pass,
-    )?;
+    let end = conversed(floor, counters, &mut source, &mut sink, pass)?;
     let output = Vec::from_slice(alloc, sink.written())?;
     Ok((end, output))
 }
@@ -91,32 +72,30 @@ pub(crate) fn both_ended<
     R: Wait + Sync,
     G: Gate + Sync,
 >(
-    rt: &Q,
-    alloc: Global,
-    settings: &Settings,
-    hub: &Shared<Work<L>, R>,
+    floor: &Floor<'_, Q, Shared<Work<L>, R>, G>,
     counters: &Counters<L>,
-    gate: &G,
     first: &[u8],
     second: &[u8],
     one: Pass<Work<L>>,
     two: Pass<Work<L>>,
 ) -> Result<(Outcome, Outcome), Memory>
-    requires in_range { IsInRange settings.now }
-    requires hub_settings { settings_of hub.now ≡ settings.now }
-    requires one { IsPassOf hub.now one × (one.seen ≡ []) }
-    requires two { IsPassOf hub.now two × (two.seen ≡ []) }
+    requires in_range { IsInRange floor.now.settings.now }
+    requires hub_settings { settings_of floor.now.hub.now ≡ floor.now.settings.now }
+    requires one { IsPassOf floor.now.hub.now one × (one.seen ≡ []) }
+    requires two { IsPassOf floor.now.hub.now two × (two.seen ≡ []) }
 {
     let (one, two) = join(
-        rt,
+        floor.rt,
         move || -> Result<Outcome, Memory>
-            requires { IsInRange settings.now × (settings_of hub.now ≡ settings.now)
-                × IsPassOf hub.now one × (one.seen ≡ []) }
-        { ended(rt, alloc, settings, hub, counters, gate, first, one) },
+            requires { IsInRange floor.now.settings.now
+                × (settings_of floor.now.hub.now ≡ floor.now.settings.now)
+                × IsPassOf floor.now.hub.now one × (one.seen ≡ []) }
+        { ended(floor, counters, first, one) },
         move || -> Result<Outcome, Memory>
-            requires { IsInRange settings.now × (settings_of hub.now ≡ settings.now)
-                × IsPassOf hub.now two × (two.seen ≡ []) }
-        { ended(rt, alloc, settings, hub, counters, gate, second, two) },
+            requires { IsInRange floor.now.settings.now
+                × (settings_of floor.now.hub.now ≡ floor.now.settings.now)
+                × IsPassOf floor.now.hub.now two × (two.seen ≡ []) }
+        { ended(floor, counters, second, two) },
     );
     let one = one?;
     Ok((one, two?))
@@ -140,9 +119,14 @@ fn two_ended<Q: Threads + Wait + Sync, L: Ledger + Send + Sync, G: Gate + Sync>(
     let (hub, mut pass) = made;
     let one = hub.split_pass(&mut pass);
     let two = hub.split_pass(&mut pass);
-    both_ended(
-        rt, alloc, settings, &hub, &counters, gate, first, second, one, two,
-    )
+    let floor = Floor {
+        rt,
+        alloc,
+        settings,
+        hub: &hub,
+        gate,
+    };
+    both_ended(&floor, &counters, first, second, one, two)
 }
 
 /// The same over a new hub.

@@ -78,7 +78,7 @@ struct Helped {
     second: u64,
 }
 
-// Both ended with the input, and behind the number of its change each was told the same, which begins as wanted.
+// Both ended with the input, and after the number of its change each was told the same, which begins as wanted.
 fn are_alike(one: Outcome, two: Outcome) -> bool {
     if one.0 != End::Finished || two.0 != End::Finished {
         return false;

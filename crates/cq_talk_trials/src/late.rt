@@ -3,6 +3,7 @@ ghost use Rattle.cq_base.specs.Settings.{IsInRange};
 ghost use Rattle.cq_shared.specs.SharedPasses.{IsPassOf, settings_of};
 
 use crate::ending::{SETTINGS, conversed};
+use crate::running::Floor;
 use cq_base::{Counters, Memory, Settings};
 use cq_chain::Pass;
 use cq_io::OpenGate;
@@ -98,9 +99,14 @@ fn come<Q: Threads + Wait + Clock + Sync, L: Ledger + Send + Sync>(
             requires { IsInRange settings.now × (settings_of hub.now ≡ settings.now)
                 × IsPassOf hub.now two × (two.seen ≡ []) }
         {
-            conversed(
-                rt, alloc, settings, hub, counters, &OpenGate, source, sink, two,
-            )
+            let floor = Floor {
+                rt,
+                alloc,
+                settings,
+                hub,
+                gate: &OpenGate,
+            };
+            conversed(&floor, counters, source, sink, two)
         },
     );
     Ok(Came {

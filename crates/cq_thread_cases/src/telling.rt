@@ -166,7 +166,7 @@ fn tell_by_four<Q: Threads + Sync, R: Wait + Sync>(
     first
 }
 
-// How often something was told, where eight threads tell it this often each.
+// How often something was told, if eight threads tell it this often each.
 fn told_by_eight<Q: Threads + Sync, R: Wait + Sync>(
     rt: &Q,
     cells: &Bench<R>,

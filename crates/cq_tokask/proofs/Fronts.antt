@@ -25,7 +25,7 @@ too_short bytes short body rest sound is =
     let len = framed_length body in
     omega (arith, short, all, both, len)
 
--- 16 bytes and what is behind them, where a frame begins these
+-- 16 bytes and what is after them, where a frame begins these
 announced_front : (front behind body rest : List ℕ) → length front ≡ 16 → IsSoundBody body → front ++ behind ≡ framed body ++ rest → announced front ≡ Some (length body)
 announced_front front behind body rest len sound is =
     let parts : front ++ behind ≡ front_of body ++ (body ++ rest) = is ∙ ap (λ (b : List ℕ). b ++ rest) (framed_parts body) ∙ append_assoc (front_of body) body rest in
@@ -51,7 +51,7 @@ all_there front behind n fits len told there =
     let is = announced_is front behind fits len (told ∙ ap (λ (k : ℕ). Some k) (sym there)) in
     record { body = behind; sound = is.1; is = ap (λ (b : List ℕ). b ++ behind) is.0 ∙ sym (framed_parts behind) }
 
--- ---- nothing stands behind a body in its frame
+-- ---- nothing comes after a body in its frame
 
 no_bytes : (bytes : List ℕ) → length bytes ≡ 0 → bytes ≡ []
 no_bytes [] none = refl

@@ -6,7 +6,7 @@ use Rattle.std.specs.Cmp.{Equal-is}
 use Rattle.std.specs.Cmp.Lexicographic.{slice_cmp}
 use Rattle.std.proofs.lemmas.Map.Lookups.{exact_bytes}
 use Rattle.cq_base.specs.declared.lang.Lang.{Lang}
-use Rattle.cq_base.specs.declared.lang.Lang.TheVariants.{Any, Go, C, Java}
+use Rattle.cq_base.specs.declared.lang.Lang.TheVariants.{Any, Go, C, Java, Js, Ts}
 use Rattle.cq_base.specs.declared.token.Class.{Class}
 use Rattle.cq_base.specs.declared.token.Class.TheVariants.{Ident, Word, Literal, Punct}
 use Rattle.cq_base.specs.contracts.lang.LangOrd.TheImpl as lang_order
@@ -22,24 +22,46 @@ lang_exact Any Any e = refl
 lang_exact Any Go e = absurd (cc)
 lang_exact Any C e = absurd (cc)
 lang_exact Any Java e = absurd (cc)
+lang_exact Any Js e = absurd (cc)
+lang_exact Any Ts e = absurd (cc)
 lang_exact Go Any e = absurd (cc)
 lang_exact Go Go e = refl
 lang_exact Go C e = absurd (cc)
 lang_exact Go Java e = absurd (cc)
+lang_exact Go Js e = absurd (cc)
+lang_exact Go Ts e = absurd (cc)
 lang_exact C Any e = absurd (cc)
 lang_exact C Go e = absurd (cc)
 lang_exact C C e = refl
 lang_exact C Java e = absurd (cc)
+lang_exact C Js e = absurd (cc)
+lang_exact C Ts e = absurd (cc)
 lang_exact Java Any e = absurd (cc)
 lang_exact Java Go e = absurd (cc)
 lang_exact Java C e = absurd (cc)
 lang_exact Java Java e = refl
+lang_exact Java Js e = absurd (cc)
+lang_exact Java Ts e = absurd (cc)
+lang_exact Js Any e = absurd (cc)
+lang_exact Js Go e = absurd (cc)
+lang_exact Js C e = absurd (cc)
+lang_exact Js Java e = absurd (cc)
+lang_exact Js Js e = refl
+lang_exact Js Ts e = absurd (cc)
+lang_exact Ts Any e = absurd (cc)
+lang_exact Ts Go e = absurd (cc)
+lang_exact Ts C e = absurd (cc)
+lang_exact Ts Java e = absurd (cc)
+lang_exact Ts Js e = absurd (cc)
+lang_exact Ts Ts e = refl
 
 lang_ties : (a : Lang) → lang_order.ghosts.cmp a a ≡ Equal
 lang_ties Any = refl
 lang_ties Go = refl
 lang_ties C = refl
 lang_ties Java = refl
+lang_ties Js = refl
+lang_ties Ts = refl
 
 class_exact : (a b : Class) → class_order.ghosts.cmp a b ≡ Equal → a ≡ b
 class_exact Ident Ident e = refl

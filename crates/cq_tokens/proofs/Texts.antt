@@ -1,4 +1,4 @@
--- Tokens whose texts lie one behind the other: one more, and the one at a position.
+-- Tokens whose texts lie one after the other: one more, and the one at a position.
 use Rattle.std.proofs.Common.{◌≡◌, ℕ, zero, suc, ◌+◌, ◌-◌, ◌<◌, ◌≤◌, Some, None, List, [], ◌∷◌, ◌++◌, length, take, drop, get_or, refl, ap, ap₂, ◌∙◌, arith}
 use Rattle.std.specs.Prelude.{slice_get}
 use Rattle.std.proofs.lemmas.List.{drop_at, take_all, drop-append-le, take-append-le, length-drop}
@@ -8,14 +8,14 @@ use Rattle.cq_base.specs.declared.norm.Norm.{Norm}
 use Rattle.cq_tokens.specs.declared.packed.Mark.{Mark}
 use Rattle.cq_tokens.specs.Packed.{bytes_between, norms_from, AreEnds, start_at, last_end}
 
--- the bytes between two places stay where more come behind
+-- the bytes between two places stay if more come after them
 between_more : (start end : ℕ) (bytes text : List ℕ) → start ≤ end → end ≤ length bytes → bytes_between start end (bytes ++ text) ≡ bytes_between start end bytes
 between_more start end bytes text low high =
     let left = length-drop start bytes in
     ap (take (end - start)) (drop-append-le start bytes text (omega (arith, low, high)))
     ∙ take-append-le (end - start) (drop start bytes) text (omega (arith, left, low, high))
 
--- those that come behind are between
+-- those that come after are between
 between_new : (bytes text : List ℕ) → bytes_between (length bytes) (length bytes + length text) (bytes ++ text) ≡ text
 between_new bytes text =
     ap (take (length bytes + length text - length bytes)) (drop_at bytes text (length bytes) refl)

@@ -1,4 +1,4 @@
--- A snapshot as it is written: a token for each place, each file behind its front, and how many bytes that are.
+-- A snapshot as it is written: a token for each place, each file after its front, and how many bytes that are.
 use Rattle.std.proofs.Common.{◌≡◌, ℕ, zero, suc, ◌+◌, ◌*◌, ◌^◌, ◌<◌, ◌≤◌, List, [], ◌∷◌, ◌++◌, length, map, take, get_or, refl, sym, ap, ◌∙◌, append_assoc, arith, length-append}
 use Rattle.std.specs.Prelude.{All}
 use Rattle.std.specs.Arc.{arc_value}
@@ -80,7 +80,7 @@ pub spelled_files : {L : Type 0} (settings : Settings) (version : ℕ) (files : 
 spelled_files {L} settings version [] sound = All-nil (λ (f : File (Work L)). HasSpelling (record_of f))
 spelled_files {L} settings version (f ∷ files) sound = All-cons (λ (g : File (Work L)). HasSpelling (record_of g)) f files (has_spelling settings version (record_of f) sound.0) (spelled_files settings version files sound.1)
 
--- ---- a file behind its front
+-- ---- a file after its front
 
 pub file_parts : (path : List ℕ) (change : ℕ) (l : Lang) (state : State) (c : FileCounts) (rest : List ℕ)
     → front path change l state c ++ rest ≡ text path ++ (to_be_bytes w64 change ++ (language l ++ (outcome state ++ (counts c ++ rest))))

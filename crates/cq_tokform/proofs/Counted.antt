@@ -1,4 +1,4 @@
--- Lists: what is read is spelled so, and what is spelled so is read, one element behind the other, as a loop does.
+-- Lists: what is read is spelled so, and what is spelled so is read, one element after the other, as a loop does.
 use Rattle.std.proofs.Common.{◌≡◌, ℕ, zero, suc, ◌-◌, ◌+◌, ◌≤◌, ◌<◌, List, [], ◌∷◌, ◌++◌, length, Option, Some, None, refl, sym, ap, subst, ◌∙◌, append_assoc, arith}
 use Rattle.std.specs.List.{flat_map, AllByRecursion}
 use Rattle.std.specs.Int.{w32, to_be_bytes}

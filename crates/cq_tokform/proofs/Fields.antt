@@ -1,4 +1,4 @@
--- What is read is spelled so, and what is spelled so is read: numbers, texts, and one field behind another.
+-- What is read is spelled so, and what is spelled so is read: numbers, texts, and one field after another.
 use Rattle.std.proofs.Common.{◌≡◌, ℕ, suc, ◌+◌, ◌^◌, ◌<◌, ◌≤◌, Bool, true, false, cond, ltb, List, [], ◌∷◌, ◌++◌, length, get_or, take, drop, Option, Some, None, Result, Ok, Err, refl, sym, ap, subst, ◌∙◌, append_assoc, arith, inl, inr}
 use Rattle.std.specs.Int.{Width, w32, w64, byte_len, from_be_bytes, to_be_bytes}
 use Rattle.std.specs.Str.{IsUtf8, is_utf8}
@@ -66,7 +66,7 @@ pub record IsReader {A : Type 0} (spell : A → List ℕ) (IsSound : A → Type 
   pub takes : (bytes : List ℕ) (x : A × List ℕ) → IsBytes bytes → at bytes ≡ Some x → Takes bytes (spell x.0) x.1 × IsSound x.0
   pub again : (a : A) (rest : List ℕ) → IsSound a → at (spell a ++ rest) ≡ Some (a, rest)
 
--- what a right reader reads first, and what is read behind it
+-- what a right reader reads first, and what is read after it
 pub after : {A Y : Type 0} (C : Type 0) (spell : A → List ℕ) (IsSound : A → Type 0) (at : List ℕ → Option (A × List ℕ)) (reader : IsReader spell IsSound at) (bytes : List ℕ) (k : A × List ℕ → Option Y) (x : Y)
     → IsBytes bytes → (at bytes >>= k) ≡ Some x → ((a : A) (rest : List ℕ) → Takes bytes (spell a) rest → IsSound a → k (a, rest) ≡ Some x → C) → C
 after C spell IsSound at reader bytes k x fits e go =

@@ -1,4 +1,4 @@
--- Reading from left to right: each reader answers the value at the front and the bytes behind it, or None.
+-- Reading from left to right: each reader answers the value at the front and the bytes after it, or None.
 use Rattle.std.specs.Prelude.{◌≡◌, ℕ, zero, suc, List, [], ◌∷◌, ◌++◌, length, map, take, drop, Vec, Option, Some, None, Result, Ok, Err, nat_lt, ◌==◌, if◌then◌else◌}
 use Rattle.std.specs.Borrow.{Bor}
 use Rattle.std.specs.declared.alloc.Global.{Global}
@@ -21,8 +21,8 @@ use Rattle.cq_tokform.specs.declared.unread.Unread.TheVariants as unread
 use Rattle.cq_tokform.specs.Spelling.{Recorded, Contents, mark, recorded}
 use Rattle.cq_tokform.specs.Sound.{is_sound_token, is_sound_function, is_sound_file, is_sound_head, is_sound_contents}
 
--- What a reader promises, where `spell` gives the bytes of a value, and `IsSound` says which values may be read: where it
--- reads, the bytes are those of a sound value and what is behind, and where it refuses, they begin with those of none.
+-- What a reader promises, where `spell` gives the bytes of a value, and `IsSound` says which values may be read: if it
+-- reads, the bytes are those of a sound value and what follows, and if it refuses, they begin with those of none.
 abbrev pub Reads : {A X : Type 0} → (A → List ℕ) → (A → Type 0) → (X → A × List ℕ) → List ℕ → Result X Unread → Type 0
 Reads spell IsSound view bytes (Ok x) = IsSound (view x).0 × (bytes ≡ spell (view x).0 ++ (view x).1)
 Reads {A = A} spell IsSound view bytes (Err unread.Refused) = (a : A) (rest : List ℕ) → IsSound a → bytes ≡ spell a ++ rest → ⊥
@@ -43,7 +43,7 @@ Gives view (Ok x) read = read ≡ Some (view x)
 Gives view (Err e) read = Fails e read
 
 module _ {A : Type 0} where
-  -- the same of a value, or a list of values, where the bytes behind it are lent
+  -- the same of a value, or a list of values, where the bytes after it are lent
   abbrev pub GivesValue : Option (A × List ℕ) → Result (A × Bor (List ℕ)) Unread → Type 0
   GivesValue read result = Gives (λ (x : A × Bor (List ℕ)). (x.0, x.1.now)) result read
 
@@ -99,7 +99,7 @@ function_at lines bytes = do
   complexity ← number_at w32 last.1
   if is_sound_function lines (record { name = name.0; first = first.0; last = last.0; complexity = complexity.0 }) then Some (record { name = name.0; first = first.0; last = last.0; complexity = complexity.0 }, complexity.1) else None
 
--- so many, one behind the other
+-- so many, one after the other
 unfoldable pub items_at : {A : Type 0} → (List ℕ → Option (A × List ℕ)) → ℕ → List ℕ → Option (List A × List ℕ)
 items_at one zero bytes = Some ([], bytes)
 items_at one (suc n) bytes = do
@@ -146,7 +146,7 @@ file_at settings version bytes = do
   functions ← counted_at (function_at counts.0.lines) tokens.1
   if is_sound_file version (record { path = path.0; change = change.0; lang = lang.0; state = state.0; counts = counts.0; tokens = tokens.0; functions = functions.0 }) then Some (record { path = path.0; change = change.0; lang = lang.0; state = state.0; counts = counts.0; tokens = tokens.0; functions = functions.0 }, functions.1) else None
 
--- the bytes behind the mark
+-- the bytes after the mark
 abbrev pub behind_mark : List ℕ → Option (List ℕ)
 behind_mark bytes = if nat_lt (length bytes) 8 then None else (if bytes_eq (take 8 bytes) mark then Some (drop 8 bytes) else None)
 

@@ -68,7 +68,7 @@ IsSoundState (states.Fault at) = at < 2 ^ 32
 IsSoundState states.Large = Unit {0}
 
 -- A file of a version: its change is one of those up to it, its counts and tokens are within their bounds, and it has
--- tokens and functions only where its reading gave them.
+-- tokens and functions only if its reading gave them.
 pub record IsSoundFile (settings : Settings) (version : ℕ) (f : Recorded) : Type 0 where
   pub path : IsSoundText f.path
   pub first_change : 1 ≤ f.change

@@ -28,11 +28,11 @@ counted spell xs = to_be_bytes w32 (length xs) ++ flat_map spell xs
 abbrev pub condition : Condition → List ℕ
 condition c = metric_code c.metric ∷ compare_code c.op ∷ to_be_bytes w64 c.error
 
--- where a token stands: its class, and four numbers of four bytes
+-- where a token is: its class, and four numbers of four bytes
 abbrev pub place : Token → List ℕ
 place t = class_code t.class ∷ (to_be_bytes w32 t.start ++ (to_be_bytes w32 t.len ++ (to_be_bytes w32 t.first_line ++ to_be_bytes w32 t.last_line)))
 
--- a token: where it stands, and its text
+-- a token: where it is, and its text
 abbrev pub token : Spelled → List ℕ
 token s = place s.token ++ text s.text
 
@@ -83,7 +83,7 @@ mark = codes "CQTOK001"
 abbrev pub framed : List ℕ → List ℕ
 framed body = mark ++ (to_be_bytes w64 (length body) ++ body)
 
--- a flag is a byte, 1 where it is set
+-- a flag is a byte, 1 if it is set
 abbrev pub flag : Bool → ℕ
 flag set = if set then 1 else 0
 

@@ -21,7 +21,7 @@ fn condition_of(bytes: &[u8]) -> Result<(Condition, &[u8]), Unread>
 }
 
 /// Writes a condition at the end.
-/// Where memory is refused, some more bytes may stand behind those that were there.
+/// If memory is refused, some more bytes may be after those that were there.
 pub fn put_condition(out: &mut Vec<u8>, condition: &Condition) -> Result<(), Memory>
     ensures written { OnOk result (AddsBytes (spell.condition condition.now) out.old out.new) }
     ensures front { OnErr result (IsFrontOf out.old.items out.new.items) }
@@ -32,7 +32,7 @@ pub fn put_condition(out: &mut Vec<u8>, condition: &Condition) -> Result<(), Mem
     Ok(())
 }
 
-// So many conditions, one behind the other. No memory is taken ahead of them.
+// So many conditions, one after the other. No memory is taken ahead of them.
 fn conditions_at(alloc: Global, count: u32, bytes: &[u8]) -> Result<(Vec<Condition>, &[u8]), Unread>
     ensures { GivesList (items_at condition_at count bytes.now) result }
 {
@@ -55,7 +55,7 @@ pub(crate) fn conditions_of(alloc: Global, bytes: &[u8]) -> Result<(Vec<Conditio
 }
 
 /// Writes how many conditions there are, and each of them, at the end.
-/// Where memory is refused, some more bytes may stand behind those that were there.
+/// If memory is refused, some more bytes may be after those that were there.
 pub fn put_conditions(out: &mut Vec<u8>, conditions: &[Condition]) -> Result<(), Memory>
     requires { length conditions.now < 2 ^ 32 }
     ensures written { OnOk result

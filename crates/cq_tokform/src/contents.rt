@@ -97,7 +97,7 @@ fn whole_of<'a>(
     Ok((contents, behind))
 }
 
-/// The contents of the token file of these settings at the front, and the bytes behind the file. It costs one walk over
+/// The contents of the token file of these settings at the front, and the bytes after the file. It costs one walk over
 /// the bytes of the file and a sort of its files' changes, and takes memory only for what it has read.
 pub fn read_whole<'a>(
     alloc: Global,

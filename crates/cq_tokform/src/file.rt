@@ -148,7 +148,7 @@ fn put_counts(out: &mut Vec<u8>, counts: FileCounts) -> Result<(), Memory>
 }
 
 /// Writes what stands before the tokens of a file at the end.
-/// Where memory is refused, some more bytes may stand behind those that were there.
+/// If memory is refused, some more bytes may be after those that were there.
 pub fn put_front(
     out: &mut Vec<u8>,
     path: &Text,

@@ -6,7 +6,7 @@ use crate::unread::Unread;
 use cq_base::Settings;
 use std::alloc::Global;
 
-// So many files, one behind the other. No memory is taken ahead of them.
+// So many files, one after the other. No memory is taken ahead of them.
 fn files_at<'a>(
     alloc: Global,
     settings: &Settings,

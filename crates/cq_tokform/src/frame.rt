@@ -65,7 +65,7 @@ pub fn announced(bytes: &[u8]) -> Option<usize>
 }
 
 /// Writes what each token file begins with at the end.
-/// Where memory is refused, some more bytes may stand behind those that were there.
+/// If memory is refused, some more bytes may be after those that were there.
 pub fn put_mark(out: &mut Vec<u8>) -> Result<(), Memory>
     ensures written { OnOk result (AddsBytes spell.mark out.old out.new) }
     ensures front { OnErr result (IsFrontOf out.old.items out.new.items) }

@@ -37,7 +37,7 @@ fn function_of(alloc: Global, lines: u64, bytes: &[u8]) -> Result<(Function, &[u
     Ok((function, rest))
 }
 
-// So many functions, one behind the other. No memory is taken ahead of them.
+// So many functions, one after the other. No memory is taken ahead of them.
 fn functions_at(
     alloc: Global,
     lines: u64,
@@ -69,7 +69,7 @@ pub(crate) fn functions_of(
 }
 
 /// Writes a function at the end.
-/// Where memory is refused, some more bytes may stand behind those that were there.
+/// If memory is refused, some more bytes may be after those that were there.
 pub fn put_function(out: &mut Vec<u8>, function: &Function) -> Result<(), Memory>
     requires { length function.now.name < 2 ^ 32 }
     ensures written { OnOk result (AddsBytes (spell.function function.now) out.old out.new) }
@@ -83,7 +83,7 @@ pub fn put_function(out: &mut Vec<u8>, function: &Function) -> Result<(), Memory
 }
 
 /// Writes how many functions there are, and each of them, at the end.
-/// Where memory is refused, some more bytes may stand behind those that were there.
+/// If memory is refused, some more bytes may be after those that were there.
 pub fn put_functions(out: &mut Vec<u8>, functions: &[Function]) -> Result<(), Memory>
     requires few { length functions.now < 2 ^ 32 }
     requires short { All (λ s. length s.name < 2 ^ 32) functions.now }

@@ -52,7 +52,7 @@ pub(crate) fn head_of<'a>(
 }
 
 /// Writes the head of a version of a project with these settings at the end.
-/// Where memory is refused, some more bytes may stand behind those that were there.
+/// If memory is refused, some more bytes may be after those that were there.
 pub fn put_head_of(
     out: &mut Vec<u8>,
     settings: &Settings,

@@ -72,7 +72,7 @@ pub(crate) fn text_of(alloc: Global, bytes: &[u8]) -> Result<(Text, &[u8]), Unre
 }
 
 /// Writes a byte at the end.
-/// Where memory is refused, some more bytes may stand behind those that were there.
+/// If memory is refused, some more bytes may be after those that were there.
 pub(crate) fn put_u8(out: &mut Vec<u8>, byte: u8) -> Result<(), Memory>
     ensures written { OnOk result (AddsBytes (byte ∷ []) out.old out.new) }
     ensures front { OnErr result (IsFrontOf out.old.items out.new.items) }
@@ -82,7 +82,7 @@ pub(crate) fn put_u8(out: &mut Vec<u8>, byte: u8) -> Result<(), Memory>
 }
 
 /// Writes a number of four bytes at the end.
-/// Where memory is refused, some more bytes may stand behind those that were there.
+/// If memory is refused, some more bytes may be after those that were there.
 pub fn put_u32(out: &mut Vec<u8>, number: u32) -> Result<(), Memory>
     ensures written { OnOk result (AddsBytes (to_be_bytes w32 number) out.old out.new) }
     ensures front { OnErr result (IsFrontOf out.old.items out.new.items) }
@@ -92,7 +92,7 @@ pub fn put_u32(out: &mut Vec<u8>, number: u32) -> Result<(), Memory>
 }
 
 /// Writes a number of eight bytes at the end.
-/// Where memory is refused, some more bytes may stand behind those that were there.
+/// If memory is refused, some more bytes may be after those that were there.
 pub fn put_u64(out: &mut Vec<u8>, number: u64) -> Result<(), Memory>
     ensures written { OnOk result (AddsBytes (to_be_bytes w64 number) out.old out.new) }
     ensures front { OnErr result (IsFrontOf out.old.items out.new.items) }
@@ -102,7 +102,7 @@ pub fn put_u64(out: &mut Vec<u8>, number: u64) -> Result<(), Memory>
 }
 
 /// Writes a text at the end.
-/// Where memory is refused, some more bytes may stand behind those that were there.
+/// If memory is refused, some more bytes may be after those that were there.
 pub(crate) fn put_text(out: &mut Vec<u8>, text: &[u8]) -> Result<(), Memory>
     requires { length text.now < 2 ^ 32 }
     ensures written { OnOk result (AddsBytes (spell.text text.now) out.old out.new) }

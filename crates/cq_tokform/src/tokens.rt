@@ -70,7 +70,7 @@ fn token_of<'a>(
     Ok((spelled, rest))
 }
 
-// So many tokens, one behind the other. No memory is taken ahead of them.
+// So many tokens, one after the other. No memory is taken ahead of them.
 fn tokens_at<'a>(
     alloc: Global,
     settings: &Settings,
@@ -116,7 +116,7 @@ fn put_place(out: &mut Vec<u8>, token: Token) -> Result<(), Memory>
 }
 
 /// Writes a token with this text at the end.
-/// Where memory is refused, some more bytes may stand behind those that were there.
+/// If memory is refused, some more bytes may be after those that were there.
 pub fn put_token(out: &mut Vec<u8>, token: Token, text: &[u8]) -> Result<(), Memory>
     requires { length text.now < 2 ^ 32 }
     ensures written { OnOk result

@@ -77,7 +77,7 @@ decision_most false n many le = omega arith
 few_decisions : (l : Lang) (before : List ℕ) (tokens : List Spelled) → decisions_after l before tokens ≤ length tokens
 few_decisions l before [] = omega arith
 few_decisions l before (s ∷ tokens) =
-    let most = decision_most (is_decision l before s.text) (decisions_after l s.text tokens) (length tokens) (few_decisions l s.text tokens) in
+    let most = decision_most (is_decision l before s) (decisions_after l s.text tokens) (length tokens) (few_decisions l s.text tokens) in
     omega (arith, most)
 
 -- lines as in the text, lines of code among them, and no more decisions than tokens

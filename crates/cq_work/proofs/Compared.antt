@@ -34,6 +34,8 @@ punctuation-spelling lang.Any text is = is
 punctuation-spelling lang.Go text is = is
 punctuation-spelling lang.C text is = undigraphed-spelling text is
 punctuation-spelling lang.Java text is = is
+punctuation-spelling lang.Js text is = is
+punctuation-spelling lang.Ts text is = is
 
 normal-spelling : (settings : Settings) (l : Lang) (c : Class) (text : List ℕ) → IsSpelling text → IsSpelling (normal_text settings l c text)
 normal-spelling settings l class.Ident text is = spelling_if settings.ignore_ids [] text empty-spelling is

@@ -17,7 +17,7 @@ module _ (most lines from : ℕ) (tokens : List Spelled) (stand : Stand most lin
   token_placed : (at : ℕ) → at < length tokens → IsPlaced most lines (get_or tokens at no_token)
   token_placed at inside = All-get_or (IsPlaced most lines) tokens at no_token inside (All-from_recursion (IsPlaced most lines) tokens (each_placed most lines from tokens stand))
 
-  -- a name and an end behind it, with no more decisions than tokens
+  -- a name and an end after it, with no more decisions than tokens
   one_within : (name close own : ℕ) → name ≤ close → close < length tokens → own ≤ length tokens
       → IsFunctionWithin lines (record { name = (token_at tokens name).text; first = (token_at tokens name).token.first_line; last = (token_at tokens close).token.last_line; complexity = 1 + own })
   one_within name close own ordered closed decided =

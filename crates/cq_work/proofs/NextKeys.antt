@@ -21,7 +21,7 @@ apart f before key (c ∷ codes) =
     ap (λ n. fold (grown f) n codes) first ∙ apart f (before * f) (grown f key c) codes
     ∙ ap (λ n. n + fold (grown f) (grown f key c) codes) (omega (arith, ap (λ n. n * before) (pow-suc f (length codes))))
 
--- a code goes out in front, and one comes in behind
+-- a code leaves in front, and one comes in at the end
 window_on : (f outgoing incoming : ℕ) (rest : List ℕ) → f ^ (length rest + 1) * (outgoing + 1) + fold (grown f) 0 (rest ++ incoming ∷ []) ≡ grown f (fold (grown f) 0 (outgoing ∷ rest)) incoming
 window_on f outgoing incoming rest =
     let first : grown f 0 outgoing ≡ outgoing + 1 + 0 = omega arith in

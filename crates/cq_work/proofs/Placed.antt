@@ -20,6 +20,8 @@ use Rattle.cq_lex_go.specs.Semicolons.{completed}
 use Rattle.cq_lex_java.specs.Java.{java}
 use Rattle.cq_lex_java.specs.Translation.{translated}
 use Rattle.cq_lex_java.proofs.Spans.{at_within}
+use Rattle.cq_lex_js.specs.JavaScript.{javascript}
+use Rattle.cq_lex_js.specs.TypeScript.{typescript}
 use Rattle.cq_work.specs.Lexing.{LexesTo}
 use Rattle.cq_work.proofs.Inserted.{semicolons_stand}
 use Rattle.cq_work.proofs.Standing.{Stand, tokens_stand}
@@ -60,3 +62,7 @@ lexes-placed lang.C text a utf8 short is =
     answer_placed c text short (λ bytes tokens. tokens) (λ tokens stand. stand) (λ units. Ok (spliced 0 units)) a (spliced-translated text utf8) is
 lexes-placed lang.Java text a utf8 short is =
     answer_placed java text short (λ bytes tokens. tokens) (λ tokens stand. stand) (translated 0 false) a (escapes-translated text utf8) is
+lexes-placed lang.Js text a utf8 short is =
+    answer_placed javascript text short (λ bytes tokens. tokens) (λ tokens stand. stand) (λ units. Ok units) a (plain-translated text utf8) is
+lexes-placed lang.Ts text a utf8 short is =
+    answer_placed typescript text short (λ bytes tokens. tokens) (λ tokens stand. stand) (λ units. Ok units) a (plain-translated text utf8) is

@@ -30,6 +30,8 @@ use Rattle.cq_lex_c.proofs.Splicing.{length-spliced}
 use Rattle.cq_lex_java.specs.Java.{java}
 use Rattle.cq_lex_java.specs.Translation.{translated}
 use Rattle.cq_lex_java.proofs.Translating.{translated-short, shorter}
+use Rattle.cq_lex_js.specs.JavaScript.{javascript}
+use Rattle.cq_lex_js.specs.TypeScript.{typescript}
 use Rattle.cq_work.specs.Lexing.{LexesTo, tokens_in, spelled_bytes}
 
 bytes_cons : (s : Spelled) (tokens : List Spelled) → spelled_bytes (s ∷ tokens) ≡ length s.text + spelled_bytes tokens
@@ -38,7 +40,7 @@ bytes_cons = sum_by-cons (λ (s : Spelled). length s.text)
 bytes_append : (a b : List Spelled) → spelled_bytes (a ++ b) ≡ spelled_bytes a + spelled_bytes b
 bytes_append = sum_by-append (λ (s : Spelled). length s.text)
 
--- ---- elements that stand one behind the other
+-- ---- elements that stand one after the other
 
 pub encodes-short : (cs : List ℕ) → length (encode_utf8_all cs) ≤ 4 * length cs
 encodes-short [] = omega arith
@@ -130,3 +132,5 @@ lexes-short lang.C text a utf8 is =
 lexes-short lang.Java text a utf8 is =
     lexed-short java text (λ bytes tokens. tokens) none_inserted (translated 0 false) a
     (shorter (length (units_of text)) (length text) (translated 0 false (units_of text)) (length-units_of text utf8) (translated-short 0 false (units_of text))) is
+lexes-short lang.Js text a utf8 is = lexed-short javascript text (λ bytes tokens. tokens) none_inserted (λ units. Ok units) a (length-units_of text utf8) is
+lexes-short lang.Ts text a utf8 is = lexed-short typescript text (λ bytes tokens. tokens) none_inserted (λ units. Ok units) a (length-units_of text utf8) is

@@ -1,4 +1,4 @@
--- The tokens of elements that stand one behind the other lie within the text and its lines, in order.
+-- The tokens of elements that stand one after the other lie within the text and its lines, in order.
 use Rattle.std.proofs.Common.{◌≡◌, ℕ, zero, suc, ◌+◌, ◌-◌, ◌<◌, ◌≤◌, List, [], ◌∷◌, ◌++◌, length, take, drop, get_or, subst, arith, length-drop, length-take-le}
 use Rattle.std.specs.List.{AllByRecursion}
 use Rattle.std.specs.Prelude.{⊤}
@@ -20,8 +20,8 @@ use Rattle.cq_work.proofs.Scalars.{scalars-take, scalars-drop, units-spell}
 use Rattle.cq_work.proofs.TextLines.{later_line, line_within}
 use Rattle.cq_work.proofs.Translated.{AreUnitsOf}
 
--- Each token lies within so many bytes and lines and is spelled in UTF-8; the first begins on a line or behind it, and each
--- other one on the last line of the one before it or behind that.
+-- Each token lies within so many bytes and lines and is spelled in UTF-8; the first begins on a line or after it, and each
+-- other one on the last line of the one before it or after that.
 abbrev pub Stand : ℕ → ℕ → ℕ → List Spelled → Type 0
 Stand most lines from [] = ⊤
 Stand most lines from (s ∷ tokens) = (from ≤ s.token.first_line) × IsWithin most lines s.token × IsSpelling s.text × Stand most lines s.token.last_line tokens
@@ -107,7 +107,7 @@ stand_more bytes (TokenOf class) line from units rest is later =
       later (line_at bytes (start + (end - start) - 1)) (later_line bytes (start + (end - start) - 1) end (omega (arith, some))),
     )
 
--- ---- one behind the other
+-- ---- one after the other
 
 module _ (lang : Language) (bytes : List ℕ) (units : List Unit) (scalars : (at : ℕ) → AreScalars (drop at units)) (few : length units ≤ 1048576) where
   elements_stand : (line from at mode : ℕ) (fs : List Found) (end last : ℕ) → line ≤ line_at bytes from → Follow lang (characters units) at mode fs end last → InOrder from (drop at units) (length bytes)

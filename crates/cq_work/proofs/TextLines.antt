@@ -26,7 +26,7 @@ module _ (text : List ℕ) (some : 0 < length text) where
   open_is b is =
       ap (λ (o : Option ℕ). unwrap_or (option_map (λ c. not (eqb c line_feed)) o) false) (slice_get-get_or text (length text - 1) 0 (omega arith)) ∙ ap not is
 
-  -- it is a line feed, or a line is open behind the last line feed
+  -- it is a line feed, or a line is open after the last line feed
   lines_are : (b : Bool) → eqb (get_or text (length text - 1) 0) line_feed ≡ b → lines_of text ≡ count_by is_feed (take (length text - 1) text) + 1
   lines_are true is =
       let all = count_by_more_yes is_feed text (length text - 1) 0 (omega arith) is in

@@ -47,7 +47,7 @@ pub record IsSpelling (text : List ℕ) : Type 0 where
   pub utf8 : IsUtf8 text
   pub short : length text ≤ 4194304
 
--- a token as it is compared in a text of this language: where its class is ignored it has no spelling
+-- a token as it is compared in a text of this language: if its class is ignored it has no spelling
 pub record IsCompared (settings : Settings) (l : Lang) (n : Norm) : Type 0 where
   pub lang : n.lang ≡ l
   pub text : IsSpelling n.text

@@ -29,7 +29,7 @@ key_of settings codes = lowest (fold folded 0 codes) settings.key_bits
 abbrev pub weight : Settings → ℕ
 weight settings = factor ^ settings.chunk % 2 ^ 64
 
--- the key of the next window comes from that of a window: one code goes out in front, and one comes in behind
+-- the key of the next window comes from that of a window: one code leaves in front, and one comes in at the end
 abbrev pub Rolls : Settings → ℕ → ℕ → ℕ → ℕ → Type 0
 Rolls settings outgoing incoming key next = (rest : List ℕ) → length rest + 1 ≡ settings.chunk → key ≡ key_of settings (outgoing ∷ rest) → next ≡ key_of settings (rest ++ incoming ∷ [])
 

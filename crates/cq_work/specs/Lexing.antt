@@ -14,6 +14,8 @@ use Rattle.cq_lex_c.specs.C.{c}
 use Rattle.cq_lex_c.specs.Splices.{spliced}
 use Rattle.cq_lex_java.specs.Java.{java}
 use Rattle.cq_lex_java.specs.Translation.{translated}
+use Rattle.cq_lex_js.specs.JavaScript.{javascript}
+use Rattle.cq_lex_js.specs.TypeScript.{typescript}
 use Rattle.cq_normal.specs.Kept.{kept}
 use Rattle.cq_work.specs.declared.work.State.{State}
 use Rattle.cq_work.specs.declared.work.State.TheVariants as state
@@ -24,6 +26,8 @@ LexesTo lang.Any text answer = IsLexed any (λ units. Ok units) (λ bytes tokens
 LexesTo lang.Go text answer = IsLexed go (λ units. Ok units) completed text answer
 LexesTo lang.C text answer = IsLexed c (λ units. Ok (spliced 0 units)) (λ bytes tokens. tokens) text answer
 LexesTo lang.Java text answer = IsLexed java (translated 0 false) (λ bytes tokens. tokens) text answer
+LexesTo lang.Js text answer = IsLexed javascript (λ units. Ok units) (λ bytes tokens. tokens) text answer
+LexesTo lang.Ts text answer = IsLexed typescript (λ units. Ok units) (λ bytes tokens. tokens) text answer
 
 -- the tokens of an answer; none of a fault, or of a text with too many
 abbrev pub tokens_in : Lexed → List Spelled

@@ -23,6 +23,9 @@ use Rattle.cq_lex_c.specs.Splices.{spliced}
 use Rattle.cq_lex_java.specs.Java.{java}
 use Rattle.cq_lex_java.specs.OneKind.{one_kind_of_java}
 use Rattle.cq_lex_java.specs.Translation.{translated}
+use Rattle.cq_lex_js.specs.JavaScript.{javascript}
+use Rattle.cq_lex_js.specs.OneKind.{one_kind_of_javascript, one_kind_of_typescript}
+use Rattle.cq_lex_js.specs.TypeScript.{typescript}
 use Rattle.cq_work.specs.Keys.{code_of, key_of, keys_of, window_keys}
 use Rattle.cq_normal.specs.Kept.{is_on, kept}
 use Rattle.cq_normal.specs.Normal.{norm_of, normal}
@@ -30,11 +33,13 @@ use Rattle.cq_work.specs.declared.work.Work.{Work}
 use Rattle.cq_work.specs.Lexing.{LexesTo, tokens_in, marks_in, kept_in}
 use Rattle.cq_work.specs.Work.{IsWorkOf}
 
-one_lexing : (l : Lang) (text : List ℕ) (a b : Lexed) → LexesTo l text a → LexesTo l text b → Alike a b
+pub one_lexing : (l : Lang) (text : List ℕ) (a b : Lexed) → LexesTo l text a → LexesTo l text b → Alike a b
 one_lexing lang.Any text a b h k = one_answer any one_kind_of_any (λ units. Ok units) (λ bytes tokens. tokens) text a b h k
 one_lexing lang.Go text a b h k = one_answer go one_kind_of_go (λ units. Ok units) completed text a b h k
 one_lexing lang.C text a b h k = one_answer c one_kind_of_c (λ units. Ok (spliced 0 units)) (λ bytes tokens. tokens) text a b h k
 one_lexing lang.Java text a b h k = one_answer java one_kind_of_java (translated 0 false) (λ bytes tokens. tokens) text a b h k
+one_lexing lang.Js text a b h k = one_answer javascript one_kind_of_javascript (λ units. Ok units) (λ bytes tokens. tokens) text a b h k
+one_lexing lang.Ts text a b h k = one_answer typescript one_kind_of_typescript (λ units. Ok units) (λ bytes tokens. tokens) text a b h k
 
 same_parts : (a b : Lexed) → Alike a b → kept_in a ≡ kept_in b
 same_parts (lexed.Tokens v marks) (lexed.Tokens w others) h = ap₂ kept h.1 h.0

@@ -12,7 +12,7 @@ use std::alloc::Global;
 #[derive(Clone, Copy, Debug, PartialEq, Eq)]
 pub(crate) struct Early {
     pub(crate) complexity: u64,
-    /// Lines of code, where the text has marks. Without marks all tokens are listed, and the lines are counted with them.
+    /// Lines of code, if the text has marks. Without marks all tokens are listed, and the lines are counted with them.
     pub(crate) ncloc: Option<u64>,
 }
 

@@ -9,6 +9,7 @@ use cq_lex_any::Any;
 use cq_lex_c::C;
 use cq_lex_go::Go;
 use cq_lex_java::Java;
+use cq_lex_js::{JavaScript, TypeScript};
 use cq_munch::{Lexed, munch};
 use std::alloc::Global;
 
@@ -25,6 +26,8 @@ fn lexed_by(alloc: Global, lang: Lang, text: &Text) -> Result<Lexed, Memory>
         Lang::Go => munch::<Go>(alloc, text),
         Lang::C => munch::<C>(alloc, text),
         Lang::Java => munch::<Java>(alloc, text),
+        Lang::Js => munch::<JavaScript>(alloc, text),
+        Lang::Ts => munch::<TypeScript>(alloc, text),
     }
 }
 
@@ -42,7 +45,7 @@ pub(crate) fn lexed(alloc: Global, lang: Lang, text: &Text) -> Result<Lexed, Mem
     lexed_by(alloc, lang, text)
 }
 
-/// What it tells of the text.
+/// What it says of the text.
 pub(crate) fn state_of(lexed: &Lexed) -> State
     ensures { result ≡ spec.state_of lexed.now }
 {

@@ -19,7 +19,7 @@ fn exchanged(key: u64, weight: u64, outgoing: u64, incoming: u64) -> u64
     folded(key, incoming).wrapping_sub(outgoing.wrapping_add(1).wrapping_mul(weight))
 }
 
-/// The key of the next window, of the key before, the code that goes out in front, and the code that comes in behind.
+/// The key of the next window, of the key before, the code that leaves in front, and the code that comes in at the end.
 pub(crate) fn rolled(
     settings: &Settings,
     weight: u64,

@@ -24,7 +24,7 @@ pub enum State {
     Large,
 }
 
-/// The work of a text: where its tokens stand that are listed, what they are as they are compared, the keys of their
+/// The work of a text: where the tokens are that are listed, what they are as they are compared, the keys of their
 /// windows, what is counted of all its tokens, and the functions that these make.
 #[derive(Drop)]
 pub struct Work<L: Ledger> {

@@ -53,7 +53,7 @@ fn texts_of(alloc: Global, words: &[String]) -> Result<Vec<Text>, Memory>
     Ok(texts)
 }
 
-// The words behind the program's name.
+// The arguments after the program's name.
 fn words_of(alloc: Global, args: env::Args) -> Result<Vec<Text>, Memory>
     ensures { IfOk result
         (λ words. words.items ≡ map string_bytes (drop 1 (into_iter_items args))) }

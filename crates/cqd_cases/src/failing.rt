@@ -51,7 +51,7 @@ fn first_lines(bytes: &[u8], count: usize) -> &[u8] {
     bytes
 }
 
-// Reads an input byte by byte, where one read fails, for each one up to the one at its end: the first of these of which
+// Reads an input byte by byte, of which one read fails, for each one up to the one at its end: the first of these of which
 // other replies are written than those to the lines that were whole by then, or which doesn't end as a fault of reading.
 fn first_read<Q: Threads + Wait + Sync>(
     rt: &Q,

@@ -16,6 +16,9 @@
     "instanceof int interface long map native new package private protected public range return select short signed sizeof " +
     "static strictfp struct super switch synchronized this throw throws transient try type typedef union unsigned var void " +
     "volatile while true false null").split(" "));
+  const KEYWORDS_OF_JS = new Set(("async await break case catch class const continue debugger default delete do else enum export " +
+    "extends false finally for function if import in instanceof let new null return static super switch this throw true try " +
+    "typeof var void while with yield abstract as declare implements interface keyof namespace private protected public readonly type").split(" "));
   const HIDDEN = /[\p{Cf}\p{Co}\p{Cs}\p{Zl}\p{Zp}]|(?!\t)\p{Cc}/gu;
   let allTexts = null;
 
@@ -78,6 +81,7 @@
     const texts = kept[part + 1].split("\n").slice(from, from + place.last - place.first + 1);
     if (!texts.length) return null;
     const isMarked = place.column >= 0 && kept[part + 2] !== "";
+    const isJs = /\.([cm]?[jt]s|jsx)$/.test(place.path);
     const marks = isMarked ? kept[part + 2].split("\n").slice(from, from + texts.length) : [];
     const indents = texts.filter((text) => text.trim()).map((text) => text.match(/^[ \t]*/)[0].length);
     const indent = indents.length ? Math.min(...indents) : 0;
@@ -88,7 +92,7 @@
       if (at === place.first) tokens = tokens.filter((token) => token[0] >= place.column && !token[2]);
       if (at === place.last) tokens = tokens.filter((token) => token[1] <= place.end);
       const count = tokens.filter((token) => !token[2]).length;
-      const line = { at, text, tokens, before, count, isMarked, indent,
+      const line = { at, text, tokens, before, count, isMarked, isJs, indent,
         from: at === place.first && isMarked ? place.column : 0,
         to: at === place.last && isMarked ? place.end : text.length };
       before += count;
@@ -129,9 +133,10 @@
 
   // -------------------------------------------------------------------------------------- the lines of a group
 
-  function kind(spelling) {
-    if (/^["'`0-9]/.test(spelling)) return "s";
-    return KEYWORDS.has(spelling) ? "k" : "";
+  // Literals, with regular expressions and the later parts of a template in JavaScript, and keywords.
+  function kind(spelling, isJs) {
+    if (/^["'`0-9]/.test(spelling) || (isJs && /^(\/.+\/|\}.)/s.test(spelling))) return "s";
+    return (isJs ? KEYWORDS_OF_JS : KEYWORDS).has(spelling) ? "k" : "";
   }
 
   // A line with its tokens, those marked that are spelled otherwise in the other place's run.
@@ -153,7 +158,7 @@
       plain(from);
       const text = line.text.slice(at, to);
       const differs = !isLater && others && others[token] !== undefined && others[token] !== line.text.slice(from, to);
-      const name = isLater ? "s" : kind(text);
+      const name = isLater ? "s" : kind(text, line.isJs);
       if (differs && text) made.append(element("mark", name, visible(text)));
       else made.append(name ? element("span", name, visible(text)) : visible(text));
       at = Math.max(at, to);

@@ -4,7 +4,7 @@ use Rattle.std.specs.Str.{IsUtf8}
 use Rattle.cq_base.specs.declared.settings.Settings.{Settings}
 use Rattle.cq_export.proofs.Holding.{one_caller_there, made_then, made_before}
 use Rattle.cq_export.proofs.working.make_one.Goals as goal
-use Rattle.cq_export.proofs.Jobs.{job_work}
+use Rattle.cq_board.proofs.Jobs.{job_work}
 use Rattle.cq_work.specs.Work.{IsWorkOf}
 
 pub returns-in-Ok-None : goal.returns-in-Ok-None

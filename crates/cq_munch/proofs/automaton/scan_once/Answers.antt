@@ -1,4 +1,4 @@
-use Rattle.std.proofs.Common.{◌+◌, Some, length, arith}
+use Rattle.std.proofs.Common.{◌+◌, Some, arith}
 use Rattle.std.proofs.lemmas.List.{length-map}
 use Rattle.cq_munch.specs.Automata.{tables_of}
 use Rattle.cq_munch.specs.Characters.{characters}

@@ -18,7 +18,7 @@ loop-at-preserved-in_ok-reached-in-Token g c =
     let spelled : Spelled = spelled_of bytes c.in-Token.class (take (at + found.units - at) (drop at units)) in
     record {
       so_far = subst (λ (end : ℕ). SoFar g.X.Lexis.language bytes units c.add_token.new.tokens.items c.loop-at.marks.items (at + found.units) found.mode end) (sym c.in_ok-reached-in-Token.ensures.end)
-          (one_token c.loop-at.invariant.so_far found taken (stays_inside units at _ c.loop-at-test.true taken.0.within) c.in-Some-longest.ensures.known c.in-Token.class spelled _ c.in-Token.is refl
+          (one_token c.loop-at.invariant.so_far found taken (stays_inside units at _ c.loop-at-test.true taken.0.within) c.in-Token.class spelled _ c.in-Token.is refl
           c.in_ok-reached-in-Token.ensures.added _ (unmarked _ _ _ _ c.in-Token.is refl));
       counted = c.in_ok-reached-in-Token.ensures.counted;
       remembered = c.longest.ensures.remembered;
@@ -28,7 +28,7 @@ pub loop-at-preserved-in_ok-add_mark-in-Comment : goal.loop-at-preserved-in_ok-a
 loop-at-preserved-in_ok-add_mark-in-Comment g c =
     let taken = c.in-Some-longest.ensures.taken in
     record {
-      so_far = one_blank c.loop-at.invariant.so_far c.in-Some-longest.found taken (stays_inside c.args.units.now c.loop-at.at _ c.loop-at-test.true taken.0.within) c.in-Some-longest.ensures.known
+      so_far = one_blank c.loop-at.invariant.so_far c.in-Some-longest.found taken (stays_inside c.args.units.now c.loop-at.at _ c.loop-at-test.true taken.0.within)
           (unspelled c.args.text.now _ _ _ _ c.in-Comment.is refl) _ (marked _ _ _ _ _ c.in-Comment.is c.in_ok-add_mark-in-Comment.ensures);
       counted = c.loop-at.invariant.counted;
       remembered = c.longest.ensures.remembered;
@@ -38,7 +38,7 @@ pub loop-at-preserved : goal.loop-at-preserved
 loop-at-preserved g c =
     let taken = c.in-Some-longest.ensures.taken in
     record {
-      so_far = one_blank c.loop-at.invariant.so_far c.in-Some-longest.found taken (stays_inside c.args.units.now c.loop-at.at _ c.loop-at-test.true taken.0.within) c.in-Some-longest.ensures.known
+      so_far = one_blank c.loop-at.invariant.so_far c.in-Some-longest.found taken (stays_inside c.args.units.now c.loop-at.at _ c.loop-at-test.true taken.0.within)
           (unspelled c.args.text.now _ _ _ _ c.in-Blank.is refl) _ (unmarked _ _ _ _ c.in-Blank.is refl);
       counted = c.loop-at.invariant.counted;
       remembered = c.longest.ensures.remembered;

@@ -6,7 +6,7 @@ use Rattle.cq_projects.proofs.Cutting.{AreFrom}
 use Rattle.cq_projects.proofs.OneWalk.{AreBelowAll}
 use Rattle.cq_projects.proofs.merging.merged.Given as goal
 
--- what is left to edit of what is left of the files, behind what is done, is what is wanted
+-- what is left to edit of what is left of the files, after what is done, is what is wanted
 abbrev pub invariant-loop-path : goal.invariant-loop-path
 invariant-loop-path g l =
     (l.from ≤ length l.fn.files.items) × AreCut (map arc_value l.fn.files.items) l.paths.entries × AreOwn (files_at l.paths.entries) × AreBelowAll (map arc_value l.done.items) (files_at l.paths.entries) × AreFrom l.from l.paths.entries

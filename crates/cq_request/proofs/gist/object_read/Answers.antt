@@ -1,4 +1,4 @@
-use Rattle.std.proofs.Common.{rules, ◌≡◌, [], ◌∷◌, ◌++◌, Bool, Some, None, false, option_map, string_bytes, sym, ap, subst}
+use Rattle.std.proofs.Common.{rules, ◌≡◌, [], ◌∷◌, ◌++◌, Bool, Some, None, false, option_map, string_bytes, sym, subst}
 use Rattle.json.specs.Json.{read_key, value}
 use Rattle.json.specs.Json as json
 use Rattle.serde_json.specs.Data.{Members, no_members}

@@ -1,4 +1,4 @@
-use Rattle.std.proofs.Common.{rules, ◌≡◌, option_map, string_bytes, sym, subst}
+use Rattle.std.proofs.Common.{option_map, string_bytes, sym, subst}
 use Rattle.json.specs.Lex.{tokens}
 use Rattle.serde_json.specs.View.{members_view}
 use Rattle.cq_request.specs.Gist.{IsGistOfLine}

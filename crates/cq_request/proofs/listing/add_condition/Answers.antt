@@ -1,4 +1,4 @@
-use Rattle.std.proofs.Common.{◌≡◌, ◌<◌, length, map, option_map, ap, ◌∙◌, arith}
+use Rattle.std.proofs.Common.{◌<◌, length, map, option_map, ap, ◌∙◌, arith}
 use Rattle.std.proofs.lemmas.List.{length-map, map-append}
 use Rattle.serde_json.specs.View.{view}
 use Rattle.cq_request.proofs.Conditional.{item_added}

@@ -1,7 +1,7 @@
 use Rattle.std.proofs.Common.{rules, ◌≡◌, ◌<◌, ◌&&◌, List, [], ◌∷◌, ◌++◌, Some, length, map, Bool, true, false, sym, ap, subst, arith, ◌∙◌}
 use Rattle.std.proofs.lemmas.List.{map-append}
 use Rattle.json.specs.Token.{Token}
-use Rattle.json.specs.Json.{after_end_array, value}
+use Rattle.json.specs.Json.{value}
 use Rattle.json.specs.Json as json
 use Rattle.serde_json.specs.Data.{Data, null, array}
 use Rattle.serde_json.specs.View.{view}

@@ -1,5 +1,4 @@
-use Rattle.std.proofs.Common.{rules, ◌≡◌, Some, None, ap, ◌∙◌}
-use Rattle.json.specs.Json.{value}
+use Rattle.std.proofs.Common.{rules, ◌≡◌, Some, None}
 use Rattle.serde_json.specs.Data.{put}
 use Rattle.serde_json.specs.View.{view, members_view}
 use Rattle.cq_request.specs.Gist.{condition_form_of}

@@ -3,7 +3,7 @@ use Rattle.std.specs.Arc.{arc_value}
 use Rattle.cq_base.specs.declared.settings.Settings.{Settings}
 use Rattle.cq_history.specs.declared.event.Event.TheVariants.{Took, Done}
 use Rattle.cq_work.specs.Work.{IsWorkOf}
-use Rattle.cq_serve.proofs.Turning.{no_events, worked, late, gave_back, taken, taken_accepted, taken_work}
+use Rattle.cq_serve.proofs.Turning.{no_events, worked, late, gave_back, taken_accepted, taken_work}
 use Rattle.cq_serve.proofs.taking.turn.Goals as goal
 
 pub returns-in-Err-clause-turned : goal.returns-in-Err-clause-turned

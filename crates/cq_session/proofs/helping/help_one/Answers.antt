@@ -8,7 +8,7 @@ use Rattle.cq_hub.proofs.Following.{done_then}
 use Rattle.cq_hub.proofs.Growing.{grows_event, grows_then, view_grows}
 use Rattle.cq_talk.proofs.Leading.{lead_none, lead_event, stands_mid}
 use Rattle.cq_work.specs.Work.{IsWorkOf}
-use Rattle.cq_session.proofs.Working.{job_work}
+use Rattle.cq_board.proofs.Jobs.{job_work}
 use Rattle.cq_session.proofs.helping.help_one.Goals as goal
 
 pub returns-in-Err-clause-refused : goal.returns-in-Err-clause-refused

@@ -1,4 +1,4 @@
-use Rattle.std.proofs.Common.{◌≡◌, ◌<◌, ◌-◌, ℕ, List, length, take, set, sym, ap, ◌∙◌, refl, rules, subst, arith}
+use Rattle.std.proofs.Common.{◌≡◌, ◌<◌, ℕ, List, length, take, set, sym, ap, ◌∙◌, refl, rules, subst, arith}
 use Rattle.std.specs.List.Sorted.{IsStrictlyIncreasing}
 use Rattle.std.proofs.lemmas.List.{length-drop, length-set, set-get_or}
 use Rattle.cq_order.proofs.InPlace.{in_place_read, in_place_set, in_place_all}

@@ -7,6 +7,6 @@ use Rattle.cq_talk_trials.proofs.ending.conversed.Goals as goal
 
 pub conversed_over-requires-clause-closed : goal.conversed_over-requires-clause-closed
 conversed_over-requires-clause-closed g c κs lives =
-    let hub = c.args.hub.now in
+    let hub = c.args.floor.now.hub.now in
     let p = c.args.pass in
     (by_of p, p.seen, record { is = c.requires.of; caller = refl; seen = refl }, (subst (λ l. view_of (state_of hub l) (by_of p) ≡ None) (sym c.requires.fresh) (no_view (callers_of hub) (by_of p)), tt))

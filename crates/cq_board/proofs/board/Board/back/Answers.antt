@@ -12,7 +12,7 @@ use Rattle.cq_board.proofs.SlotLists.{undone_kept, undone_behind, held_grows}
 use Rattle.cq_board.proofs.Undoing.{undone-set_same}
 use Rattle.cq_board.proofs.board.Board.back.Goals as goal
 
--- the room is that of the limit: all behind the floor are kept, and no more than the limit are
+-- the room is that of the limit: all above the floor are kept, and no more than the limit are
 pub note_given_back-requires : goal.note_given_back-requires
 note_given_back-requires g c =
     let a : Accepted = c.self.inside.changes in

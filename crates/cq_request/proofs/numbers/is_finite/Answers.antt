@@ -1,7 +1,7 @@
 use Rattle.std.proofs.Common.{◌≡◌, ℕ, List, is_some, true, sym, subst, ◌∙◌}
 use Rattle.serde_json.specs.Read.{number_of}
 use Rattle.cq_request.proofs.Fitting.{finite_negative, finite_positive}
-use Rattle.cq_request.proofs.skipping.is_finite.Goals as goal
+use Rattle.cq_request.proofs.numbers.is_finite.Goals as goal
 
 pub returns-then-is_negative : goal.returns-then-is_negative
 returns-then-is_negative c = λ finite.

@@ -1,7 +1,7 @@
 use Rattle.std.proofs.Common.{◌≡◌, true, false, refl, sym, ◌∙◌}
 use Rattle.serde_json.specs.Read.{number_of}
 use Rattle.cq_request.proofs.Fitting.{no_number, number_read}
-use Rattle.cq_request.proofs.member.parsed_number.Goals as goal
+use Rattle.cq_request.proofs.numbers.parsed_number.Goals as goal
 
 pub returns-in-Ok-clause-value : goal.returns-in-Ok-clause-value
 returns-in-Ok-clause-value c = sym (number_read c.args.text.now c.requires.numeral) ∙ c.in-Ok.ensures.ok

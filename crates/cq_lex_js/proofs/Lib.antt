@@ -1,0 +1,4 @@
+pub mod Dispatch
+pub mod Blanks
+pub mod After
+pub mod Stacks

@@ -1,0 +1,15 @@
+pub mod Characters
+pub mod Names
+pub mod Punctuators
+pub mod Numbers
+pub mod Literals
+pub mod Modes
+pub mod Jsx
+pub mod Stack
+pub mod JavaScript
+pub mod TypeScript
+pub mod Scanner
+pub mod LiteralScanner
+pub mod ChildrenScanner
+pub mod TagScanner
+pub mod OneKind
