@@ -2,7 +2,9 @@ pub mod Cutting
 pub mod Editing
 pub mod FileAt
 pub mod FileLists
+pub mod Fronts
 pub mod Gathering
+pub mod Indexes
 pub mod Moving
 pub mod Narrowing
 pub mod OneWalk

@@ -1,8 +1,9 @@
-use Rattle.std.proofs.Common.{◌≡◌, ◌<◌, [], List, ℕ, length, sym, ap, ◌∙◌, subst, subst₂}
+use Rattle.std.proofs.Common.{◌≡◌, ◌<◌, [], List, ℕ, length, sym, ap, ◌∙◌, subst, subst₂, arith}
 use Rattle.std.specs.Arc.{arc_value}
 use Rattle.cq_projects.specs.Projects.{ListedProject, name_in, files_in, conditions_in, position_of}
 use Rattle.cq_projects.specs.Ordered.{AreRising, IsAt, IsGap}
 use Rattle.cq_projects.proofs.OwnerLists.{listed_position, listed_within, listed_rising, listed_inserted, listed_first, listed_files, listed_conditions}
+use Rattle.cq_projects.proofs.Indexes.{gap_inside}
 use Rattle.cq_projects.proofs.draft.draft_at.Goals as goal
 
 pub returns-in-Ok-clause-first : goal.returns-in-Ok-clause-first
@@ -49,3 +50,18 @@ returns-in_ok-insert-in-Err-clause-conditions g c =
     let named : c.of.result.name ≡ arc_value c.args.name.now = ap name_in made ∙ c.in_ok-name-in-Err.ensures in
     subst (λ (ps : List (ListedProject g.row.W.Denot)). (q : List ℕ) → conditions_in ps q ≡ conditions_in c.args.drafts.now.items q) (sym c.in_ok-insert-in-Err.ensures.items)
     (listed_conditions (arc_value c.args.name.now) c.args.drafts.now.items c.in-Err.i gap c.of.result named (ap (λ (p : ListedProject g.row.W.Denot). p.conditions) made))
+
+pub find-requires : goal.find-requires
+find-requires g c = subst (AreRising name_in) (sym c.deref.ensures.value) c.requires
+
+pub insert-requires : goal.insert-requires
+insert-requires g c = omega (arith, gap_inside c.in-Err.ensures.gap, ap length c.deref.ensures.value, c.args.drafts.now.ok.0)
+
+pub returns-in_err-insert-in-Err-clause-names : goal.returns-in_err-insert-in-Err-clause-names
+returns-in_err-insert-in-Err-clause-names g c = subst (AreRising name_in) (sym c.in_err-insert-in-Err.ensures.items) c.requires
+
+pub returns-in_err-insert-in-Err-clause-files : goal.returns-in_err-insert-in-Err-clause-files
+returns-in_err-insert-in-Err-clause-files g c = λ q. ap (λ (ps : List (ListedProject g.row.W.Denot)). files_in ps q) c.in_err-insert-in-Err.ensures.items
+
+pub returns-in_err-insert-in-Err-clause-conditions : goal.returns-in_err-insert-in-Err-clause-conditions
+returns-in_err-insert-in-Err-clause-conditions g c = λ q. ap (λ (ps : List (ListedProject g.row.W.Denot)). conditions_in ps q) c.in_err-insert-in-Err.ensures.items

@@ -3,6 +3,7 @@ use Rattle.cq_history.specs.Files.{File}
 use Rattle.cq_projects.proofs.OwnerLists.{rising_held}
 use Rattle.cq_projects.proofs.Putting.{number_at_index, no_number_at}
 use Rattle.cq_projects.proofs.Cutting.{cut_at as cut_found, cut_gap}
+use Rattle.cq_projects.proofs.Indexes.{at_inside}
 use Rattle.cq_projects.proofs.files.cut_at.Goals as goal
 
 pub find_between-requires-clause-rising : goal.find_between-requires-clause-rising
@@ -21,3 +22,9 @@ returns-in-Err-clause-cut g c = cut_gap c.args.files.now c.args.path.now c.in-Er
 
 pub returns-in-Err-clause-change : goal.returns-in-Err-clause-change
 returns-in-Err-clause-change g c = no_number_at c.args.files.now c.args.path.now c.in-Err.i c.in-Err.ensures.gap
+
+pub find_between-requires-clause-bound : goal.find_between-requires-clause-bound
+find_between-requires-clause-bound g c = c.requires.bound
+
+pub bounds-files-i : goal.bounds-files-i
+bounds-files-i g c = at_inside c.in-Ok.ensures.found

@@ -1,4 +1,4 @@
-use Rattle.std.proofs.Common.{ap, ◌∙◌}
+use Rattle.std.proofs.Common.{◌≡◌, ◌++◌, take, drop, ap, ◌∙◌, subst, arith}
 use Rattle.std.specs.Vec.Iter.{into_iter_items}
 use Rattle.cq_projects.proofs.Moving.{left_on, moved_some, moved_none}
 use Rattle.cq_projects.proofs.merging.append_moved.Goals as goal
@@ -20,3 +20,13 @@ loop-step-preserved g c =
         left_on n xs rest.items c.loop-step.invariant.1 rest.len c.next.result now rest.ok.0 c.next.ensures.variant c.next.ensures.items,
       )
     ]
+
+pub returns-clause-moved : goal.returns-clause-moved
+returns-clause-moved g c =
+    let ended : c.loop-step._step ≡ c.args.count = omega arith in
+    subst (λ n. c.loop-step.done.items ≡ c.args.done.now.items ++ take n (into_iter_items c.args.rest.now)) ended c.loop-step.invariant.0
+
+pub returns-clause-left : goal.returns-clause-left
+returns-clause-left g c =
+    let ended : c.loop-step._step ≡ c.args.count = omega arith in
+    subst (λ n. into_iter_items c.loop-step.rest ≡ drop n (into_iter_items c.args.rest.now)) ended c.loop-step.invariant.1
