@@ -10,7 +10,7 @@ use Rattle.cq_base.specs.declared.lang.Lang.{Lang}
 use Rattle.cq_base.specs.declared.change.Condition.{Condition}
 use Rattle.cq_base.specs.declared.change.Change.{Change}
 use Rattle.cq_base.specs.declared.change.Change.TheVariants.{Put, Drop, Gate}
-use Rattle.cq_history.specs.Files.{File, Source, files_of, files_after, with_file, without_file}
+use Rattle.cq_history.specs.Files.{File, Source, files_of, files_after, with_file, without_file, number_at}
 use Rattle.cq_history.specs.Standing.{AreInPathOrder}
 use Rattle.cq_history.specs.State.{Slot, no_slot, is_done}
 use Rattle.cq_history.proofs.Prefixes.{files_of_push, conditions_from_push}
@@ -18,7 +18,7 @@ use Rattle.cq_history.proofs.Standing.{files_stand}
 use Rattle.cq_board.specs.Related.{IsSameFile, AreSameFiles}
 use Rattle.cq_kept.specs.Slots.{slot_at, changes_of}
 use Rattle.cq_board.specs.Listings.{listed, IsListing}
-use Rattle.cq_projects.specs.Projects.{name_in, path_of, number_at, files_in, conditions_in, ListedProject}
+use Rattle.cq_projects.specs.Projects.{name_in, path_of, files_in, conditions_in, ListedProject}
 use Rattle.cq_projects.specs.Ordered.{AreRising}
 use Rattle.cq_board.proofs.Living.{live_put, live_drop, live_gate}
 use Rattle.cq_projects.proofs.OwnerLists.{rising_same}

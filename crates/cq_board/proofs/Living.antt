@@ -9,13 +9,12 @@ use Rattle.cq_base.specs.declared.change.Condition.{Condition}
 use Rattle.cq_base.specs.declared.change.Change.{Change}
 use Rattle.cq_base.specs.declared.change.Change.TheVariants.{Put, Drop, Gate}
 use Rattle.cq_history.specs.Changes.{change_at, is_of_file}
-use Rattle.cq_history.specs.Files.{Source, files_of, with_file, without_file, place_of}
+use Rattle.cq_history.specs.Files.{Source, files_of, with_file, without_file, place_of, number_at}
 use Rattle.cq_history.specs.Standing.{Has, IsLastPut}
 use Rattle.cq_history.proofs.PathOrder.{insert_has}
 use Rattle.cq_history.proofs.Prefixes.{files_of_push}
 use Rattle.cq_history.proofs.Standing.{still_last, was_last, files_stand}
 use Rattle.cq_board.specs.Listings.{IsLive}
-use Rattle.cq_projects.specs.Projects.{number_at}
 use Rattle.cq_kept.proofs.PutNumbers.{number_found, number_of, last_of, has_of}
 
 -- ---- a change names a file

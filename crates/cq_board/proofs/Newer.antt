@@ -22,7 +22,7 @@ use Rattle.cq_projects.specs.Projects.{ListedProject, name_in, files_in}
 use Rattle.cq_projects.specs.Ordered.{AreRising}
 use Rattle.cq_projects.specs.Spotted.{AreApart, AreOlder, numbers_of}
 use Rattle.cq_board.proofs.Living.{live_within, one_place}
-use Rattle.cq_projects.proofs.Putting.{before_apart, below_apart}
+use Rattle.cq_history.proofs.PathOrder.{before_apart, below_apart}
 
 abbrev source_numbers : List Source → List ℕ
 source_numbers files = map (λ (f : Source). f.number) files

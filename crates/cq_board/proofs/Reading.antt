@@ -6,7 +6,8 @@ use Rattle.std.proofs.Math.Seq.{get_or-append_seam}
 use Rattle.std.proofs.lemmas.Slice.Eq.{bytes_eq-Decides}
 use Rattle.cq_projects.specs.Projects.{owner_name, files_in, conditions_in, ListedProject}
 use Rattle.cq_projects.specs.Ordered.{AreBelow, AreAbove, IsAt, IsGap}
-use Rattle.cq_projects.proofs.Putting.{below_apart, above_apart}
+use Rattle.cq_history.proofs.PathOrder.{below_apart}
+use Rattle.cq_projects.proofs.Putting.{above_apart}
 
 module _ {W : Type 0} (name : List ℕ) where
   found_files : (a b : List (Arc (ListedProject W) Global)) (x : Arc (ListedProject W) Global) → AreBelow owner_name name a → owner_name x ≡ name → files_in (map arc_value (a ++ x ∷ b)) name ≡ (arc_value x).files

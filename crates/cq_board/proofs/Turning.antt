@@ -15,7 +15,7 @@ use Rattle.cq_base.specs.declared.lang.Lang.{Lang}
 use Rattle.cq_base.specs.declared.change.Condition.{Condition}
 use Rattle.cq_base.specs.declared.change.Change.{Change}
 use Rattle.cq_base.specs.declared.change.Change.TheVariants.{Put, Drop, Gate}
-use Rattle.cq_history.specs.Files.{File, files_of, with_file, without_file}
+use Rattle.cq_history.specs.Files.{File, files_of, with_file, without_file, number_at}
 use Rattle.cq_base.proofs.Bools.{cond-same}
 use Rattle.cq_shard.proofs.Entries.{any_of, from_filter, to_filter}
 use Rattle.cq_board.specs.Related.{IsSameFile, AreSameFiles}
@@ -24,7 +24,7 @@ use Rattle.cq_projects.specs.declared.projects.ProjectEdit.TheVariants as edit
 use Rattle.cq_board.specs.Edits.{IsEditFor, project_named, put_by}
 use Rattle.cq_projects.specs.Edits.{edited_files, edited_conditions, replaced_by}
 use Rattle.cq_board.specs.Listings.{Listed, listed, HaveSame, AreLive, IsListing}
-use Rattle.cq_projects.specs.Projects.{name_in, number_at, files_in, conditions_in, ListedProject}
+use Rattle.cq_projects.specs.Projects.{name_in, files_in, conditions_in, ListedProject}
 use Rattle.cq_projects.specs.Ordered.{AreRising}
 use Rattle.cq_board.specs.Turnover.{IsNext, AddsChange, left, from_option}
 use Rattle.cq_board.proofs.Numbers.{rising-from_pairs, rising_push}

@@ -10,7 +10,8 @@ use Rattle.std.specs.Cmp.Lexicographic.{slice_cmp}
 use Rattle.std.proofs.lemmas.Cmp.{nat_list_cmp_total}
 use Rattle.std.proofs.lemmas.Map.Lookups.{exact_bytes}
 use Rattle.std.proofs.lemmas.Slice.Eq.{bytes_eq-Decides}
-use Rattle.cq_base.proofs.Orderings.{Less-from_is_lt}
+use Rattle.std.proofs.lemmas.Bool.{false_from_ne_true}
+use Rattle.cq_base.proofs.Orderings.{Less-from_is_lt, Equal-from_reverse}
 use Rattle.cq_history.specs.Files.{Source, is_before, place_of, without_file}
 use Rattle.cq_history.specs.Standing.{Has, AreInPathOrder}
 
@@ -27,6 +28,18 @@ pub before_other : (p q : List ℕ) → is_before p q ≡ false → bytes_eq p q
 before_other p q h apart =
     turned (slice_cmp nat_cmp p q) (slice_cmp nat_cmp q p) (nat_list_cmp_total.antisymm q p) h
     (λ same. let equal : bytes_eq p q ≡ true = (bytes_eq-Decides p q).1 (exact_bytes p q same) in absurd (cc))
+
+not_less : (r : Ordering) → is_lt r ≡ true → r ≡ Equal → ⊥
+not_less Less h e = absurd (cc)
+not_less Equal h e = absurd (cc)
+not_less Greater h e = absurd (cc)
+
+-- a path before another is not that one
+pub before_apart : (p q : List ℕ) → is_before p q ≡ true → p ≡ q → ⊥
+before_apart p q h same = not_less (slice_cmp nat_cmp p q) h (ap (slice_cmp nat_cmp p) (sym same) ∙ Equal-from_reverse (slice_cmp nat_cmp p p) (nat_list_cmp_total.antisymm p p))
+
+pub below_apart : (p q : List ℕ) → is_before q p ≡ true → bytes_eq p q ≡ false
+below_apart p q h = false_from_ne_true (bytes_eq p q) (λ e. before_apart q p h (sym ((bytes_eq-Decides p q).0 e)))
 
 -- ---- taken out
 

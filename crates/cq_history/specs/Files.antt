@@ -1,5 +1,5 @@
 -- The files and the conditions of a project after a list of changes.
-use Rattle.std.specs.Prelude.{ℕ, ◌+◌, Bool, not, ◌&&◌, ◌||◌, if◌then◌else◌, List, [], ◌∷◌, take, filter, insert}
+use Rattle.std.specs.Prelude.{ℕ, ◌+◌, Bool, not, ◌&&◌, ◌||◌, if◌then◌else◌, List, [], ◌∷◌, take, filter, insert, Option, Some, None}
 use Rattle.std.specs.List.{list_any, position_or_len}
 use Rattle.std.specs.Str.{bytes_eq}
 use Rattle.std.specs.Ordering.{nat_cmp, is_lt}
@@ -35,6 +35,11 @@ module _ {X : Type 0} where
 
   abbrev pub has_file : List ℕ → List (File X) → Bool
   has_file p files = list_any (λ (f : File X). bytes_eq p f.path) files
+
+  -- the number of the change that put the file at a path, if there is one
+  abbrev pub number_at : List ℕ → List (File X) → Option ℕ
+  number_at p [] = None
+  number_at p (f ∷ files) = if bytes_eq p f.path then Some f.number else number_at p files
 
 -- a file with its text
 abbrev pub Source : Type 0

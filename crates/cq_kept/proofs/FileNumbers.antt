@@ -8,10 +8,9 @@ use Rattle.cq_base.specs.declared.lang.Lang.{Lang}
 use Rattle.cq_base.specs.declared.change.Condition.{Condition}
 use Rattle.cq_base.specs.declared.change.Change.{Change}
 use Rattle.cq_base.specs.declared.change.Change.TheVariants.{Put, Drop, Gate}
-use Rattle.cq_history.specs.Files.{Source, files_of, has_file, with_file, without_file, place_of}
+use Rattle.cq_history.specs.Files.{Source, files_of, has_file, with_file, without_file, place_of, number_at}
 use Rattle.cq_history.proofs.Prefixes.{files_of_push}
 use Rattle.cq_history.proofs.Presence.{bytes_eq-sym}
-use Rattle.cq_projects.specs.Projects.{number_at}
 
 -- there is a number where there is a file
 pub numbered : (p : List ℕ) (files : List Source) → is_some (number_at p files) ≡ has_file p files

@@ -19,11 +19,10 @@ use Rattle.cq_base.specs.declared.change.Change.TheVariants.{Put, Drop, Gate}
 use Rattle.cq_base.specs.declared.lang.Lang.{Lang}
 use Rattle.cq_base.specs.declared.change.Condition.{Condition}
 use Rattle.cq_history.specs.Changes.{change_at, is_of_file, is_gate_of, IsNumber}
-use Rattle.cq_history.specs.Files.{Source, files_of, has_file}
+use Rattle.cq_history.specs.Files.{Source, files_of, has_file, number_at}
 use Rattle.cq_history.specs.Standing.{IsLastPut}
 use Rattle.cq_history.proofs.Presence.{bytes_eq-sym}
 use Rattle.cq_history.proofs.Standing.{files_stand}
-use Rattle.cq_projects.specs.Projects.{number_at}
 use Rattle.cq_kept.specs.declared.kept.FileKey.{FileKey}
 use Rattle.cq_kept.specs.declared.kept.ProjectKey.{ProjectKey}
 use Rattle.cq_kept.specs.declared.presence.Presence.{Presence}

@@ -4,11 +4,10 @@ use Rattle.std.specs.List.{AllByRecursion}
 use Rattle.std.specs.Str.{bytes_eq}
 use Rattle.std.proofs.lemmas.Slice.Eq.{bytes_eq-Decides}
 use Rattle.cq_base.specs.declared.change.Change.{Change}
-use Rattle.cq_history.specs.Files.{Source, is_before, files_of}
+use Rattle.cq_history.specs.Files.{Source, is_before, files_of, number_at}
 use Rattle.cq_history.specs.Standing.{Has, AreInPathOrder, IsLastPut}
 use Rattle.cq_history.proofs.Standing.{files_stand}
-use Rattle.cq_projects.specs.Projects.{number_at}
-use Rattle.cq_projects.proofs.Putting.{below_apart}
+use Rattle.cq_history.proofs.PathOrder.{below_apart}
 
 pub number_found : (p : List ℕ) (files : List Source) (r : ℕ) → number_at p files ≡ Some r → (f : Source) × Has files f × (f.path ≡ p) × (f.number ≡ r)
 number_found p [] r is = absurd (true≢false (sym (cc is)))

@@ -5,8 +5,7 @@ use Rattle.std.specs.BTreeMap.{get}
 use Rattle.std.specs.declared.cmp.Ordering.{Ordering}
 use Rattle.cq_base.specs.declared.change.Change.{Change}
 use Rattle.cq_history.specs.Changes.{is_gate_of}
-use Rattle.cq_history.specs.Files.{files_of, has_file}
-use Rattle.cq_projects.specs.Projects.{number_at}
+use Rattle.cq_history.specs.Files.{files_of, has_file, number_at}
 use Rattle.cq_kept.specs.declared.kept.FileKey.{FileKey}
 use Rattle.cq_kept.specs.declared.kept.ProjectKey.{ProjectKey}
 use Rattle.cq_kept.specs.declared.presence.Presence.{Presence}

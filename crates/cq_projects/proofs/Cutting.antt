@@ -10,7 +10,8 @@ use Rattle.cq_projects.specs.declared.merging.Named.{Named}
 use Rattle.cq_projects.specs.Drafts.{one_or_none, files_at, IsCut, AreCut, Merges}
 use Rattle.cq_projects.specs.Projects.{path_in, path_of}
 use Rattle.cq_projects.specs.Ordered.{IsAt, IsGap, AreBelow, AreAbove}
-use Rattle.cq_projects.proofs.Putting.{all_below, all_above, before_apart, below_not_above}
+use Rattle.cq_history.proofs.PathOrder.{before_apart}
+use Rattle.cq_projects.proofs.Putting.{all_below, all_above, below_not_above}
 use Rattle.cq_projects.proofs.OneWalk.{AreLater, below_both, below_later, at_later}
 
 take_seam : {X : Type 0} (a b : List X) → take (length a) (a ++ b) ≡ a

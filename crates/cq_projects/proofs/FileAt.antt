@@ -7,12 +7,12 @@ use Rattle.std.proofs.lemmas.Option.{none-some}
 use Rattle.std.proofs.lemmas.Slice.Eq.{bytes_eq-Decides}
 use Rattle.std.proofs.lemmas.Bool.{cases_Bool}
 use Rattle.cq_base.proofs.Bools.{cond-same}
-use Rattle.cq_history.specs.Files.{File, is_before, with_file, without_file, place_of}
-use Rattle.cq_projects.specs.Projects.{number_at, path_of}
+use Rattle.cq_history.specs.Files.{File, is_before, with_file, without_file, place_of, number_at}
+use Rattle.cq_projects.specs.Projects.{path_of}
 use Rattle.cq_projects.specs.Ordered.{AreRising}
-use Rattle.cq_projects.proofs.Putting.{above_apart, before_apart}
+use Rattle.cq_projects.proofs.Putting.{above_apart}
 use Rattle.cq_projects.proofs.PathOrders.{elsewhere}
-use Rattle.cq_history.proofs.PathOrder.{before_chain}
+use Rattle.cq_history.proofs.PathOrder.{before_chain, before_apart}
 
 some_same : {X : Type 0} {x y : X} → Some x ≡ Some y → x ≡ y
 some_same e = cc e

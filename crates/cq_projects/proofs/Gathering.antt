@@ -15,10 +15,10 @@ use Rattle.std.proofs.lemmas.List.{append_assoc, map-append}
 use Rattle.std.proofs.lemmas.Map.Lookups.{exact_bytes}
 use Rattle.std.proofs.lemmas.Map.Text.{is_eq-slice_cmp}
 use Rattle.std.proofs.lemmas.Slice.Eq.{bytes_eq-Decides}
-use Rattle.cq_history.specs.Files.{File}
+use Rattle.cq_history.specs.Files.{File, number_at}
 use Rattle.cq_projects.specs.declared.merging.Named.{Named}
 use Rattle.cq_projects.specs.Drafts.{edited_at, edited_all, files_at, number_in, IsCut, IsOwn, AreOwn, AreCut}
-use Rattle.cq_projects.specs.Projects.{number_at, path_of}
+use Rattle.cq_projects.specs.Projects.{path_of}
 use Rattle.cq_projects.specs.Ordered.{AreRising}
 use Rattle.cq_projects.proofs.FileAt.{file_at, number_file, file_at-with, file_at-without, same_files}
 use Rattle.cq_projects.proofs.PathOrders.{rising_with, rising_without}

@@ -16,8 +16,8 @@ use Rattle.cq_projects.specs.Drafts.{edited_at, edited_all, IsOwn, AreOwn, one_o
 use Rattle.cq_projects.specs.Projects.{path_of}
 use Rattle.cq_projects.specs.Ordered.{AreBelow, AreAbove}
 use Rattle.cq_projects.proofs.PathOrders.{all_without, all_insert}
-use Rattle.cq_projects.proofs.Putting.{below_apart, below_not_above, without_above, place_gap}
-use Rattle.cq_history.proofs.PathOrder.{before_chain}
+use Rattle.cq_projects.proofs.Putting.{below_not_above, without_above, place_gap}
+use Rattle.cq_history.proofs.PathOrder.{before_chain, below_apart}
 
 module _ {X : Type 0} where
   without_low : (p : List ℕ) (low files : List (File X)) → AreBelow path_of p low → without_file p (low ++ files) ≡ low ++ without_file p files

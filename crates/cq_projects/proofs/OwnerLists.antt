@@ -9,7 +9,8 @@ use Rattle.std.proofs.lemmas.Slice.Eq.{bytes_eq-Decides}
 use Rattle.cq_history.specs.Files.{is_before, File}
 use Rattle.cq_projects.specs.Projects.{owner_name, projects_in, name_in, path_in, path_of, files_in, conditions_in, position_of, ListedProject}
 use Rattle.cq_projects.specs.Ordered.{AreRising, AreBelow, AreAbove, IsAt, IsGap}
-use Rattle.cq_projects.proofs.Putting.{below_apart, above_apart, insert_seam}
+use Rattle.cq_history.proofs.PathOrder.{below_apart}
+use Rattle.cq_projects.proofs.Putting.{above_apart, insert_seam}
 use Rattle.cq_projects.proofs.ProjectLists.{files_in-seam, conditions_in-seam}
 
 -- ---- an order goes by the texts alone

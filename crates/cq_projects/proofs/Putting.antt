@@ -4,31 +4,17 @@ use Rattle.std.specs.List.{AllByRecursion, insert, remove}
 use Rattle.std.specs.Arc.{arc_value}
 use Rattle.std.specs.declared.sync.Arc.{Arc}
 use Rattle.std.specs.Str.{bytes_eq}
-use Rattle.std.specs.Ordering.{nat_cmp, is_lt}
-use Rattle.std.specs.declared.cmp.Ordering.{Ordering}
-use Rattle.std.specs.declared.cmp.Ordering.TheVariants.{Less, Equal, Greater}
-use Rattle.std.specs.Cmp.Lexicographic.{slice_cmp}
+use Rattle.std.specs.Ordering.{is_lt}
 use Rattle.std.proofs.Math.Seq.{get_or-append_seam, set-append_seam}
 use Rattle.std.proofs.lemmas.Cmp.{nat_list_cmp_total}
 use Rattle.std.proofs.lemmas.Slice.Eq.{bytes_eq-Decides}
 use Rattle.std.proofs.lemmas.List.{map-append}
 use Rattle.std.proofs.lemmas.Bool.{false_from_ne_true}
-use Rattle.cq_base.proofs.Orderings.{Less-from_is_lt, Equal-from_reverse}
-use Rattle.cq_history.specs.Files.{File, is_before, with_file, without_file, place_of}
-use Rattle.cq_projects.specs.Projects.{path_in, number_at}
+use Rattle.cq_base.proofs.Orderings.{Less-from_is_lt}
+use Rattle.cq_history.specs.Files.{File, is_before, with_file, without_file, place_of, number_at}
+use Rattle.cq_history.proofs.PathOrder.{before_apart, below_apart}
+use Rattle.cq_projects.specs.Projects.{path_in}
 use Rattle.cq_projects.specs.Ordered.{AreBelow, AreAbove, IsAt, IsGap}
-
-not_less : (r : Ordering) → is_lt r ≡ true → r ≡ Equal → ⊥
-not_less Less h e = absurd (cc)
-not_less Equal h e = absurd (cc)
-not_less Greater h e = absurd (cc)
-
--- a path before another is not that one
-pub before_apart : (p q : List ℕ) → is_before p q ≡ true → p ≡ q → ⊥
-before_apart p q h same = not_less (slice_cmp nat_cmp p q) h (ap (slice_cmp nat_cmp p) (sym same) ∙ Equal-from_reverse (slice_cmp nat_cmp p p) (nat_list_cmp_total.antisymm p p))
-
-pub below_apart : (p q : List ℕ) → is_before q p ≡ true → bytes_eq p q ≡ false
-below_apart p q h = false_from_ne_true (bytes_eq p q) (λ e. before_apart q p h (sym ((bytes_eq-Decides p q).0 e)))
 
 pub above_apart : (p q : List ℕ) → is_before p q ≡ true → bytes_eq p q ≡ false
 above_apart p q h = false_from_ne_true (bytes_eq p q) (λ e. before_apart p q h ((bytes_eq-Decides p q).0 e))

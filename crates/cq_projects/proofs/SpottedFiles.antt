@@ -17,7 +17,8 @@ use Rattle.cq_projects.specs.Ordered.{AreRising, AreBelow, AreAbove, IsAt, IsGap
 use Rattle.cq_projects.specs.Spotted.{AreSpotted, AreOlder, IsPositionOfPath, numbers_of, paths_of}
 use Rattle.cq_projects.proofs.FileLists.{insert-map, remove-map}
 use Rattle.cq_projects.proofs.PathOrders.{rising_with, rising_without}
-use Rattle.cq_projects.proofs.Putting.{before_apart, replaced_at, inserted_at, removed_at}
+use Rattle.cq_history.proofs.PathOrder.{before_apart}
+use Rattle.cq_projects.proofs.Putting.{replaced_at, inserted_at, removed_at}
 use Rattle.cq_projects.proofs.SpotLists.{number_read, length_numbers}
 
 abbrev pub spot_at : ℕ → ℕ → Spot

@@ -5,10 +5,10 @@ use Rattle.std.specs.declared.sync.Arc.{Arc}
 use Rattle.std.specs.declared.alloc.Global.{Global}
 use Rattle.std.specs.Str.{bytes_eq}
 use Rattle.cq_base.specs.declared.change.Condition.{Condition}
-use Rattle.cq_history.specs.Files.{File, with_file, without_file}
+use Rattle.cq_history.specs.Files.{File, with_file, without_file, number_at}
 use Rattle.cq_projects.specs.declared.projects.ProjectEdit.{ProjectEdit}
 use Rattle.cq_projects.specs.declared.projects.ProjectEdit.TheVariants.{Put, Drop, Gate}
-use Rattle.cq_projects.specs.Projects.{path_in, number_at, ListedProject, files_in, conditions_in, position_of, projects_in}
+use Rattle.cq_projects.specs.Projects.{path_in, ListedProject, files_in, conditions_in, position_of, projects_in}
 use Rattle.cq_projects.specs.Spotted.{AreOlder}
 
 module _ {W : Type 0} where

@@ -1,5 +1,5 @@
 -- What projects are to their readers: by name, each with its files and conditions.
-use Rattle.std.specs.Prelude.{ℕ, List, [], ◌∷◌, map, if◌then◌else◌, Option, Some, None}
+use Rattle.std.specs.Prelude.{ℕ, List, [], ◌∷◌, map, if◌then◌else◌}
 use Rattle.std.specs.Arc.{arc_value}
 use Rattle.std.specs.declared.sync.Arc.{Arc}
 use Rattle.std.specs.declared.alloc.Global.{Global}
@@ -10,11 +10,6 @@ use Rattle.cq_history.specs.Files.{File}
 
 abbrev pub path_of : {X : Type 0} → File X → List ℕ
 path_of f = f.path
-
--- the number of the change that put the file at a path, if there is one
-abbrev pub number_at : {X : Type 0} → List ℕ → List (File X) → Option ℕ
-number_at p [] = None
-number_at p (f ∷ files) = if bytes_eq p f.path then Some f.number else number_at p files
 
 -- what a project is to its readers: its name, its files in path order, each with its work, and the conditions of its last
 -- gate, none before its first

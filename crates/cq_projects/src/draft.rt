@@ -7,7 +7,8 @@ ghost use Rattle.std.specs.Cmp.Lexicographic.{slice_cmp};
 ghost use Rattle.cq_projects.specs.Drafts.{IsOwn, IsSetAt, IsRevised, IsOwnerRevised, number_in, edited_named, files_at, AreOwn, AreCut};
 ghost use Rattle.cq_projects.specs.Spotted.{AreApart, AreApartIn};
 ghost use Rattle.cq_projects.specs.Edits.{replaced_by, SameFilesByName, SameConditionsByName, EditsProjectFiles, EditsProjectConditions, IsReplacedIn, EditsFiles, EditsConditions};
-ghost use Rattle.cq_projects.specs.Projects.{number_at, name_in, position_of, owner_files};
+ghost use Rattle.cq_history.specs.Files.{number_at};
+ghost use Rattle.cq_projects.specs.Projects.{name_in, position_of, owner_files};
 ghost use Rattle.cq_projects.specs.Ordered.{AreRising, IsAt, IsGap};
 
 use crate::files::Cut;

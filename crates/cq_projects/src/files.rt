@@ -4,7 +4,8 @@ ghost use Rattle.std.specs.Ordering.{nat_cmp};
 ghost use Rattle.std.specs.Cmp.Lexicographic.{slice_cmp};
 ghost use Rattle.cq_projects.specs.Ordered.{AreRising, AreBelow, AreAbove, IsAt, IsGap};
 ghost use Rattle.cq_projects.specs.Drafts.{held_in, IsCut};
-ghost use Rattle.cq_projects.specs.Projects.{path_in, path_of, number_at};
+ghost use Rattle.cq_history.specs.Files.{number_at};
+ghost use Rattle.cq_projects.specs.Projects.{path_in, path_of};
 
 use crate::held::Held;
 use cq_base::{Memory, Text};

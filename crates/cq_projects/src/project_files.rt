@@ -1,9 +1,9 @@
 ghost use Rattle.std.specs.Prelude.{◌≡◌, ◌<◌, List, [], length, map, slice_get, Some, IfOk, OnOk, OnErr};
 ghost use Rattle.std.specs.Arc.{arc_value};
-ghost use Rattle.cq_history.specs.Files.{with_file, without_file};
+ghost use Rattle.cq_history.specs.Files.{with_file, without_file, number_at};
 ghost use Rattle.cq_order.specs.Spots.{AreSpots, IsPositionOf};
 ghost use Rattle.cq_projects.specs.Drafts.{IsCut, edited_named, files_at, AreOwn, AreCut};
-ghost use Rattle.cq_projects.specs.Projects.{path_in, path_of, number_at};
+ghost use Rattle.cq_projects.specs.Projects.{path_in, path_of};
 ghost use Rattle.cq_projects.specs.Ordered.{AreRising};
 ghost use Rattle.cq_projects.specs.Spotted.{AreApartIn, AreOlder, IsPositionOfPath, numbers_of};
 

@@ -3,10 +3,10 @@ use Rattle.std.specs.Prelude.{option_map}
 use Rattle.std.specs.Arc.{arc_value}
 use Rattle.std.specs.Map.{lookup}
 use Rattle.std.specs.BTreeMap.{is_at}
-use Rattle.cq_history.specs.Files.{File}
+use Rattle.cq_history.specs.Files.{File, number_at}
 use Rattle.cq_projects.specs.declared.merging.Named.{Named}
 use Rattle.cq_projects.specs.Drafts.{AreOwn, AreCut, IsCut, edited_all, edited_at, files_at}
-use Rattle.cq_projects.specs.Projects.{ListedProject, name_in, number_at, path_of}
+use Rattle.cq_projects.specs.Projects.{ListedProject, name_in, path_of}
 use Rattle.cq_projects.specs.Ordered.{AreRising}
 use Rattle.cq_projects.proofs.Gathering.{text_cmp, own_insert, cut_insert, files_insert, files_lookup, set_files, number_replaced, number_before}
 use Rattle.cq_projects.proofs.draft.Draft.set.Goals as goal

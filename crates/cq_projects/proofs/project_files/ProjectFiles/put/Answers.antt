@@ -2,8 +2,8 @@ use Rattle.std.proofs.Common.{Global, ◌≡◌, List, Some, length, map, refl, 
 use Rattle.std.specs.Prelude.{insert}
 use Rattle.std.specs.Arc.{arc_value}
 use Rattle.std.specs.declared.sync.Arc.{Arc}
-use Rattle.cq_history.specs.Files.{File, with_file}
-use Rattle.cq_projects.specs.Projects.{path_in, number_at}
+use Rattle.cq_history.specs.Files.{File, with_file, number_at}
+use Rattle.cq_projects.specs.Projects.{path_in}
 use Rattle.cq_projects.specs.Ordered.{AreRising, IsAt, IsGap}
 use Rattle.cq_projects.specs.Spotted.{AreSpotted, AreOlder}
 use Rattle.cq_projects.proofs.OwnerLists.{rising_held}
