@@ -64,15 +64,15 @@ a_line_has_its_reply_beside_workers set callers workers reads reads_now line are
 
 -- ---- `ask`: a query that asks for a later version is told which one there is
 
-the_kept_version_is_told : {Answered : Type 0} (version at : ℕ) → version ≡ 3 → at ≡ 5 → MatchBool (nat_lt version at) (reply.Refused (refusal.Future 5) ≡ reply.Refused (refusal.Future version)) Answered → ⊥
-the_kept_version_is_told {Answered} version at three five says =
+the_kept_version_is_told : (Answered : Type 0) (version at : ℕ) → version ≡ 3 → at ≡ 5 → MatchBool (nat_lt version at) (reply.Refused (refusal.Future 5) ≡ reply.Refused (refusal.Future version)) Answered → ⊥
+the_kept_version_is_told Answered version at three five says =
     let later : MatchBool (nat_lt version 5) (reply.Refused (refusal.Future 5) ≡ reply.Refused (refusal.Future version)) Answered =
     subst (λ n. MatchBool (nat_lt version n) (reply.Refused (refusal.Future 5) ≡ reply.Refused (refusal.Future version)) Answered) five says in
     let other : reply.Refused (refusal.Future 5) ≡ reply.Refused (refusal.Future 3) =
     subst (λ n. MatchBool (nat_lt n 5) (reply.Refused (refusal.Future 5) ≡ reply.Refused (refusal.Future n)) Answered) three later in grind (arith, other)
 
 pub the_version_that_was_asked_for_is_not_told : {L : Type 0} (s : Snapshot L) (q : Query) → s.version ≡ 3 → q.at ≡ 5 → AnswersQuery s q (reply.Refused (refusal.Future 5)) → ⊥
-the_version_that_was_asked_for_is_not_told s q three five says = the_kept_version_is_told s.version q.at three five says
+the_version_that_was_asked_for_is_not_told s q three five says = the_kept_version_is_told _ s.version q.at three five says
 
 -- ---- `ask` and `export`: a token file has the settings that it was written under
 
