@@ -1,15 +1,13 @@
-//! Trials on real threads: cells under their locks, a worker's turn and its bell, and a server of many sessions, whose
-//! connections wait for one another; and the doors over sockets, on the loopback address.
+//! Trials of what neither a contract nor a reply shows: cells under their locks on real threads, a worker's turn that finds no
+//! memory, how often both hubs look at the keys of a work, and what a sweep lets go of.
 #![tactic(auto)]
 
 #[cfg(test)]
-mod cells;
+mod made;
 #[cfg(test)]
-mod clients_served;
+mod publishing;
 #[cfg(test)]
-mod listening;
-#[cfg(test)]
-mod loopback;
+mod sweeping;
 #[cfg(test)]
 mod telling;
 #[cfg(test)]

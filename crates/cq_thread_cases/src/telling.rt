@@ -6,7 +6,9 @@ ghost use Rattle.cq_thread_cases.specs.declared.telling.Told.{Told as Event};
 use cq_cells::{Cells, Law, Pass};
 use std::sync::Wait;
 use std::test::*;
+use std::thread;
 use std::thread::{Threads, join};
+use std::time::{Clock, Duration};
 
 // A caller tells something, once each shard has applied this many changes.
 #[derive(Clone, Copy, Drop)]
@@ -77,14 +79,15 @@ fn add<R>(cells: &Bench<R>, mut tally: Tally, pass: &mut Token)
     cells.leave_board(tally, events, pass);
 }
 
-// The pass's caller tells something.
-fn tell<R: Wait>(cells: &Bench<R>, pass: &mut Token)
+// The pass's caller holds the board for so many milliseconds, and tells something.
+fn tell<C: Clock, R: Wait>(clock: &C, cells: &Bench<R>, pass: &mut Token, rest: u64)
     requires of { IsPassOf cells.now pass.old × IsFree pass.old }
     ensures of { IsPassOf cells.now pass.new × IsFree pass.new × IsSameCaller pass.old pass.new }
     ensures told { own (λ (e : Event). Some e.by) (by_of pass.old) pass.new.seen
         ≡ own (λ (e : Event). Some e.by) (by_of pass.old) pass.old.seen ++ record { by = by_of pass.old; after = 0 } ∷ [] }
 {
     let tally = cells.enter_board(pass);
+    thread::sleep(clock, Duration::from_millis(rest));
     add(cells, tally, pass);
 }
 
@@ -100,17 +103,19 @@ fn how_often<R: Wait>(cells: &Bench<R>, pass: &mut Token) -> u64
     often
 }
 
-fn tell_often<R: Wait>(cells: &Bench<R>, mut pass: Token, times: u32) -> Token
+// It tells it so many times, and holds the board for long at the first.
+fn tell_often<C: Clock, R: Wait>(clock: &C, cells: &Bench<R>, mut pass: Token, times: u32) -> Token
     requires of { IsPassOf cells.now pass × IsFree pass }
     ensures of { IsPassOf cells.now result × IsFree result }
 {
-    for _step in 0..times {
-        tell(cells, &mut pass);
+    for step in 0..times {
+        let rest = if step == 0 { 50 } else { 0 };
+        tell(clock, cells, &mut pass, rest);
     }
     pass
 }
 
-fn tell_by_two<Q: Threads, R: Wait + Sync>(
+fn tell_by_two<Q: Threads + Clock + Sync, R: Wait + Sync>(
     rt: &Q,
     cells: &Bench<R>,
     one: Token,
@@ -126,17 +131,17 @@ fn tell_by_two<Q: Threads, R: Wait + Sync>(
         move || -> Token
             requires { IsPassOf cells.now one × IsFree one }
             ensures { IsPassOf cells.entry.now result × IsFree result }
-        { tell_often(cells, one, times) },
+        { tell_often(rt, cells, one, times) },
         move || -> Token
             requires { IsPassOf cells.now two × IsFree two }
             ensures { IsPassOf cells.entry.now result × IsFree result }
-        { tell_often(cells, two, times) },
+        { tell_often(rt, cells, two, times) },
     );
     cells.join_pass(&mut one, two);
     one
 }
 
-fn tell_by_four<Q: Threads + Sync, R: Wait + Sync>(
+fn tell_by_four<Q: Threads + Clock + Sync, R: Wait + Sync>(
     rt: &Q,
     cells: &Bench<R>,
     one: Token,
@@ -166,8 +171,9 @@ fn tell_by_four<Q: Threads + Sync, R: Wait + Sync>(
     first
 }
 
-// How often something was told, if eight threads tell it this often each.
-fn told_by_eight<Q: Threads + Sync, R: Wait + Sync>(
+// How often something was told, if eight threads tell it this often each. While one of them holds the board, the others wait
+// for it, and then go on.
+fn told_by_eight<Q: Threads + Clock + Sync, R: Wait + Sync>(
     rt: &Q,
     cells: &Bench<R>,
     mut pass: Token,

@@ -7,7 +7,7 @@ use cq_base::{Change, Lang, Memory, Settings, Text};
 use cq_board::Refused;
 use cq_hub::{Hub, Solo, SoloPass};
 use cq_io::{Gate, OpenGate};
-use cq_serve::{Bell, RingingGate, Turn, turn};
+use cq_serve::{Turn, turn};
 use cq_session::Server;
 use cq_work::{Keyer, Work};
 use std::alloc::Global;
@@ -125,20 +125,4 @@ fn a_turn_gives_back_what_it_has_no_memory_for(rt: HostRuntime) -> Result<(), Re
         Some(wanted)
     );
     Ok(())
-}
-
-#[test]
-fn a_gate_rings_the_bell_for_each_change(rt: HostRuntime) {
-    let bell = Bell::new();
-    let gate = RingingGate {
-        gate: &OpenGate,
-        bell: &bell,
-        rt: &rt,
-    };
-    gate.after_accept(1);
-    gate.before_work(1);
-    gate.after_accept(2);
-    assert_eq!(rt; bell.heard(&rt), Some(2));
-    bell.end(&rt);
-    assert_eq!(rt; bell.heard(&rt), None);
 }

@@ -5,7 +5,7 @@ use Rattle.cq_history.specs.State.{state, slot_of}
 use Rattle.cq_hub.specs.Hubs.{Never}
 use Rattle.cq_hub.proofs.Following.{view_then, work_of_put}
 use Rattle.cq_hub.proofs.Staying.{closed_stays}
-use Rattle.cq_index_cases.proofs.made.finish.Goals as goal
+use Rattle.cq_thread_cases.proofs.made.finish.Goals as goal
 
 pub finish-requires : goal.finish-requires
 finish-requires g c =

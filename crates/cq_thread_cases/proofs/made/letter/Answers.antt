@@ -1,7 +1,7 @@
 use Rattle.std.proofs.Common.{◌≡◌, [], ◌∷◌, ◌++◌, length, sym, ap, ◌∙◌, subst, arith}
 use Rattle.std.specs.Str.{IsUtf8}
-use Rattle.cq_index_cases.proofs.Letters.{letter_utf8}
-use Rattle.cq_index_cases.proofs.made.letter.Goals as goal
+use Rattle.cq_thread_cases.proofs.Letters.{letter_utf8}
+use Rattle.cq_thread_cases.proofs.made.letter.Goals as goal
 
 pub returns-clause-utf8 : goal.returns-clause-utf8
 returns-clause-utf8 c =

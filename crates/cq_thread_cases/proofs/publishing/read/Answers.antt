@@ -4,7 +4,7 @@ use Rattle.cq_history.specs.declared.event.Event.TheVariants as event
 use Rattle.cq_hub.specs.Hubs.{IsPublication, Never}
 use Rattle.cq_hub.proofs.Following.{view_then, latest_opened, opened_then, shut_then}
 use Rattle.cq_hub.proofs.Staying.{closed_stays, viewing_stays}
-use Rattle.cq_index_cases.proofs.hubs.read.Goals as goal
+use Rattle.cq_thread_cases.proofs.publishing.read.Goals as goal
 
 pub open_view-requires : goal.open_view-requires
 open_view-requires g c =

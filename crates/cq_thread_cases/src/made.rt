@@ -6,7 +6,7 @@ ghost use Rattle.cq_base.specs.declared.settings.Settings.{Settings};
 ghost use Rattle.cq_base.specs.Changes.{IsSoundChange};
 ghost use Rattle.cq_history.specs.Changes.{is_put};
 ghost use Rattle.cq_hub.specs.Answers.{HasNoView};
-ghost use Rattle.cq_index_cases.specs.Puts.{HasSeenPut};
+ghost use Rattle.cq_thread_cases.specs.Puts.{HasSeenPut};
 
 use cq_base::{Change, Lang, Memory, Settings, Text};
 use cq_board::{Finished, Refused};
@@ -22,39 +22,8 @@ pub trait Made: Indexed {
         ensures { (settings : Settings) (lang : Lang) (text : List ℕ)
             → Self.IsWorkOf settings lang text result };
 
-    /// How often its keys were looked at, if it counts that.
+    /// How often its keys were looked at.
     fn looks(&self) -> u64;
-}
-
-/// Its two windows have different keys.
-#[derive(Drop)]
-pub struct Apart {}
-
-impl Indexed for Apart {
-    ghost use Rattle.std.specs.Prelude.{◌≡◌, ◌∷◌, [], refl};
-    ghost use Rattle.std.proofs.Common.{rules};
-
-    ghost keys_in = { λ work. 3 ∷ 4 ∷ [] };
-
-    ghost IsWorkOf = { λ settings lang text work. Unit {0} };
-
-    fn keys(&self) -> &[u64] {
-        &[3, 4]
-    }
-
-    ghost determined = { λ settings lang text work other is also. refl };
-
-    ghost few = { Prim.search rules };
-}
-
-impl Made for Apart {
-    fn made() -> Apart {
-        Apart {}
-    }
-
-    fn looks(&self) -> u64 {
-        0
-    }
 }
 
 /// Its two windows have different keys, and it counts how often they are looked at.
@@ -105,24 +74,6 @@ pub const SETTINGS: Settings = Settings {
     byte_limit: 1_152_921_504_606_846_976,
 };
 
-/// One of two projects.
-#[derive(Clone, Copy)]
-pub enum Project {
-    P,
-    Q,
-}
-
-impl Project {
-    fn byte(self) -> u8
-        ensures { result < 128 }
-    {
-        match self {
-            Project::P => b'p',
-            Project::Q => b'q',
-        }
-    }
-}
-
 // A text of one letter.
 fn letter(alloc: Global, byte: u8) -> Result<Text, Memory>
     requires { byte < 128 }
@@ -134,20 +85,12 @@ fn letter(alloc: Global, byte: u8) -> Result<Text, Memory>
     Ok(Text::from_vec(bytes))
 }
 
-// Its name.
-fn name(alloc: Global, project: Project) -> Result<Text, Memory>
-    ensures utf8 { IfOk result IsUtf8 }
-    ensures len { IfOk result (λ text. length text ≤ 1) }
-{
-    letter(alloc, project.byte())
-}
-
-// A put of the file `a` of a project.
-fn put(alloc: Global, project: Project) -> Result<Change, Memory>
+// A put of the file `a` of the project `p`.
+fn put(alloc: Global) -> Result<Change, Memory>
     ensures sound { IfOk result IsSoundChange }
     ensures put { IfOk result (λ change. is_put change ≡ true) }
 {
-    let project = name(alloc, project)?;
+    let project = letter(alloc, b'p')?;
     let path = letter(alloc, b'a')?;
     let text = letter(alloc, b'x')?;
     Ok(Change::Put {
@@ -158,17 +101,16 @@ fn put(alloc: Global, project: Project) -> Result<Change, Memory>
     })
 }
 
-/// A put of a project is accepted by a caller that has no view open.
+/// A put is accepted by a caller that has no view open.
 pub fn accept<W: Made, H: Hub<W>>(
     alloc: Global,
-    project: Project,
     hub: &H,
     pass: &mut H::Pass,
 ) -> Result<u64, Refused>
     requires { HasNoView H.Stands H.settings H.callers hub.now pass.old }
     ensures { IfOk result (HasSeenPut H.Hub hub.now pass.new) }
 {
-    let change = put(alloc, project)?;
+    let change = put(alloc)?;
     match hub.accept(alloc, change, pass) {
         Ok(number) => Ok(number),
         Err(cause) => Err(cause),

@@ -3,7 +3,7 @@ use Rattle.cq_shard.specs.Shard.{HasWindow}
 use Rattle.cq_chain.specs.Passes as chain
 use Rattle.cq_chain.specs.Passes.{BoardCells}
 use Rattle.cq_shared.proofs.Applying.{same_step}
-use Rattle.cq_index_cases.proofs.sweeps.look.Goals as goal
+use Rattle.cq_thread_cases.proofs.sweeping.look.Goals as goal
 
 pub enter_shard-shard-requires : goal.enter_shard-shard-requires
 enter_shard-shard-requires g c = record {

@@ -4,7 +4,7 @@ use Rattle.cq_history.specs.Changes.{is_put}
 use Rattle.cq_history.specs.State.{state, slot_of, IsAccepted}
 use Rattle.cq_hub.specs.Hubs.{Never}
 use Rattle.cq_hub.proofs.Following.{accepted_then, view_then}
-use Rattle.cq_index_cases.proofs.made.accept.Goals as goal
+use Rattle.cq_thread_cases.proofs.made.accept.Goals as goal
 
 pub returns-in-Ok : goal.returns-in-Ok
 returns-in-Ok g c =
