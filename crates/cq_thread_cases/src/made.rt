@@ -74,6 +74,24 @@ pub const SETTINGS: Settings = Settings {
     byte_limit: 1_152_921_504_606_846_976,
 };
 
+/// One of two projects.
+#[derive(Clone, Copy)]
+pub enum Project {
+    P,
+    Q,
+}
+
+impl Project {
+    fn byte(self) -> u8
+        ensures { result < 128 }
+    {
+        match self {
+            Project::P => b'p',
+            Project::Q => b'q',
+        }
+    }
+}
+
 // A text of one letter.
 fn letter(alloc: Global, byte: u8) -> Result<Text, Memory>
     requires { byte < 128 }
@@ -85,12 +103,12 @@ fn letter(alloc: Global, byte: u8) -> Result<Text, Memory>
     Ok(Text::from_vec(bytes))
 }
 
-// A put of the file `a` of the project `p`.
-fn put(alloc: Global) -> Result<Change, Memory>
+// A put of the file `a` of a project.
+fn put(alloc: Global, project: Project) -> Result<Change, Memory>
     ensures sound { IfOk result IsSoundChange }
     ensures put { IfOk result (λ change. is_put change ≡ true) }
 {
-    let project = letter(alloc, b'p')?;
+    let project = letter(alloc, project.byte())?;
     let path = letter(alloc, b'a')?;
     let text = letter(alloc, b'x')?;
     Ok(Change::Put {
@@ -101,16 +119,17 @@ fn put(alloc: Global) -> Result<Change, Memory>
     })
 }
 
-/// A put is accepted by a caller that has no view open.
+/// A put of a project is accepted by a caller that has no view open.
 pub fn accept<W: Made, H: Hub<W>>(
     alloc: Global,
+    project: Project,
     hub: &H,
     pass: &mut H::Pass,
 ) -> Result<u64, Refused>
     requires { HasNoView H.Stands H.settings H.callers hub.now pass.old }
     ensures { IfOk result (HasSeenPut H.Hub hub.now pass.new) }
 {
-    let change = put(alloc)?;
+    let change = put(alloc, project)?;
     match hub.accept(alloc, change, pass) {
         Ok(number) => Ok(number),
         Err(cause) => Err(cause),

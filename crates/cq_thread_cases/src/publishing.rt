@@ -4,7 +4,7 @@ ghost use Rattle.cq_base.specs.declared.lang.Lang.{Lang};
 ghost use Rattle.cq_base.specs.declared.settings.Settings.{Settings};
 ghost use Rattle.cq_hub.specs.Answers.{HasNoView};
 
-use crate::made::{Counted, Made, SETTINGS, accept, finish};
+use crate::made::{Counted, Made, Project, SETTINGS, accept, finish};
 use cq_base::{Entry, Memory};
 use cq_board::Refused;
 use cq_hub::{Hub, Solo};
@@ -32,9 +32,10 @@ fn read<W: Made, H: Hub<W>>(
     Ok((version, entries))
 }
 
-// A put is accepted, its work is finished and published, and both its keys are read.
+// A put of a project is accepted, its work is finished and published, and both its keys are read.
 fn publish_and_read<W: Made, H: Hub<W>>(
     alloc: Global,
+    project: Project,
     work: Arc<W, Global>,
     hub: &H,
     pass: &mut H::Pass,
@@ -44,7 +45,7 @@ fn publish_and_read<W: Made, H: Hub<W>>(
     requires closed { HasNoView H.Stands H.settings H.callers hub.now pass.old }
     ensures { OnOk result (HasNoView H.Stands H.settings H.callers hub.now pass.new) }
 {
-    let number = accept(alloc, hub, pass)?;
+    let number = accept(alloc, project, hub, pass)?;
     finish(hub, number, work, pass)?;
     read(alloc, hub, 3, pass)?;
     read(alloc, hub, 4, pass)?;
@@ -58,9 +59,10 @@ fn swept<W: Indexed, H: Hub<W>>(alloc: Global, hub: &H, pass: &mut H::Pass) -> R
     hub.sweep(alloc, pass)
 }
 
-/// Two versions of one file are published, each by a commit of its own, and read: how often the keys of the works of the first
-/// and of the second are looked at, and the floor after a sweep.
-pub fn publish_both<W: Made, H: Hub<W>>(
+/// Two works are published, each by a commit of its own, in a project of its own, so that both stay; then another version of
+/// the first file. After each commit both keys are read: how often the keys of the first and of the second work are looked at,
+/// and the floor after a sweep.
+pub fn publish_three<W: Made, H: Hub<W>>(
     alloc: Global,
     hub: &H,
     pass: &mut H::Pass,
@@ -69,19 +71,20 @@ pub fn publish_both<W: Made, H: Hub<W>>(
 {
     let first = Arc::new(alloc, W::made())?;
     let second = Arc::new(alloc, W::made())?;
-    publish_and_read(alloc, Arc::try_clone(&first)?, hub, pass)?;
-    publish_and_read(alloc, Arc::try_clone(&second)?, hub, pass)?;
+    publish_and_read(alloc, Project::P, Arc::try_clone(&first)?, hub, pass)?;
+    publish_and_read(alloc, Project::Q, Arc::try_clone(&second)?, hub, pass)?;
+    publish_and_read(alloc, Project::P, Arc::new(alloc, W::made())?, hub, pass)?;
     let floor = swept(alloc, hub, pass)?;
     Ok((first.looks(), second.looks(), floor))
 }
 
 fn over_solo<W: Made>(alloc: Global) -> Result<(u64, u64, u64), Refused> {
     let (hub, mut pass) = Solo::<W>::new(alloc, &SETTINGS)?;
-    publish_both(alloc, &hub, &mut pass)
+    publish_three(alloc, &hub, &mut pass)
 }
 
 #[test]
 fn the_plain_hub_looks_at_keys_once_for_all_shards(rt: HostRuntime) -> Result<(), Refused> {
-    assert_eq!(rt; over_solo::<Counted>(rt.alloc())?, (1, 1, 2));
+    assert_eq!(rt; over_solo::<Counted>(rt.alloc())?, (1, 1, 3));
     Ok(())
 }

@@ -2,7 +2,7 @@ ghost use Rattle.std.specs.Prelude.{◌≡◌, ◌<◌, []};
 ghost use Rattle.cq_shared.specs.SharedPasses.{IsPassOf, settings_of};
 
 use crate::made::{Counted, Made, SETTINGS};
-use crate::publishing::publish_both;
+use crate::publishing::publish_three;
 use cq_base::Memory;
 use cq_board::Refused;
 use cq_chain::Pass;
@@ -11,7 +11,7 @@ use cq_shared::Shared;
 use std::alloc::Global;
 use std::sync::Wait;
 
-// What comes of both versions, for a caller that has seen nothing.
+// What comes of the three works, for a caller that has seen nothing.
 fn serve<W: Made, R: Wait>(
     alloc: Global,
     hub: &Shared<W, R>,
@@ -20,7 +20,7 @@ fn serve<W: Made, R: Wait>(
     requires of { IsPassOf hub.now pass }
     requires fresh { pass.seen ≡ [] }
 {
-    publish_both(alloc, hub, &mut pass)
+    publish_three(alloc, hub, &mut pass)
 }
 
 // The floor of a shard, and how many entries with the key 3 it has of the first two changes.
@@ -41,7 +41,7 @@ fn look<W: Indexed, R: Wait>(
     Ok((floor, entries?.len()))
 }
 
-// What comes of both versions over a new shared hub, and how each of its two shards then looks to another caller.
+// What comes of the three works over a new shared hub, and how each of its two shards then looks to another caller.
 fn swept_and_seen<Q: Wait>(
     rt: &Q,
     alloc: Global,
@@ -54,12 +54,12 @@ fn swept_and_seen<Q: Wait>(
     Ok((came, first, second))
 }
 
-// Of the two entries with the key 3, one for each version, the first is let go of.
+// Of the entries with the key 3 of the first two changes, that of the first is let go of, which has another version.
 #[test]
 fn each_shared_shard_looks_at_keys_once_and_is_swept(rt: HostRuntime) -> Result<(), Refused> {
     assert_eq!(rt;
         swept_and_seen(&rt, rt.alloc())?,
-        ((2, 2, 2), (2, 0), (2, 1))
+        ((2, 2, 3), (3, 0), (3, 1))
     );
     Ok(())
 }

@@ -5,8 +5,8 @@ use Rattle.cq_cells.specs.Passes.{by_of}
 use Rattle.cq_shared.specs.SharedPasses.{callers_of, state_of}
 use Rattle.cq_thread_cases.proofs.sweeping.serve.Goals as goal
 
-pub publish_both-requires : goal.carry_out-requires
-publish_both-requires g c =
+pub publish_three-requires : goal.carry_out-requires
+publish_three-requires g c =
     let hub = c.args.hub.now in
     let p = c.args.pass in
     (by_of p, p.seen, record { is = c.requires.of; caller = refl; seen = refl }, subst (λ l. view_of (state_of hub l) (by_of p) ≡ None) (sym c.requires.fresh) (no_view (callers_of hub) (by_of p)))
