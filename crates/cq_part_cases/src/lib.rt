@@ -1,5 +1,5 @@
-//! Trials of parts that no reply of the program shows: ends of bytes in memory, lines and their limit, how often the keys of a
-//! text's windows are computed from the start, and the plain list of groups of `cq_scan`, which no command calls.
+//! Trials of parts that no reply of the program shows: ends of bytes, how often the keys of a text's windows are computed from
+//! the start, and the plain list of groups of `cq_scan`, which no command calls.
 #![tactic(auto)]
 
 #[cfg(test)]
@@ -7,8 +7,4 @@ mod ends;
 #[cfg(test)]
 mod keys;
 #[cfg(test)]
-mod lines;
-#[cfg(test)]
 mod scans;
-#[cfg(test)]
-mod written;
