@@ -35,29 +35,32 @@ fn file_of<L: Ledger>(alloc: Global, text: &[u8]) -> Result<FileTokens<L>, Memor
     })
 }
 
-// The groups of two texts.
 fn listed<L: Ledger>(
     alloc: Global,
-    first: &[u8],
-    second: &[u8],
+    texts: &[&[u8]],
     min: u32,
     blank: Blank,
 ) -> Result<Vec<Group>, Memory>
+    requires few { length texts.now < 2 ^ 32 }
     requires some { 1 ≤ min }
     requires name { blank.name ≡ L.name }
     requires parts { blank.parts ≡ L.parts }
 {
     let mut files: Vec<FileTokens<L>> = Vec::new(alloc);
-    files.push(file_of(alloc, first)?)?;
-    files.push(file_of(alloc, second)?)?;
+    for text in texts {
+        if files.len() < 100 {
+            files.push(file_of(alloc, text)?)?;
+        }
+    }
     let mut steps = Steps::new(blank);
     scan(alloc, &PlainFiles::new(&files), min, &mut steps)
 }
 
-fn groups_of(alloc: Global, first: &[u8], second: &[u8], min: u32) -> Result<Vec<Group>, Memory>
+fn groups_of(alloc: Global, texts: &[&[u8]], min: u32) -> Result<Vec<Group>, Memory>
+    requires few { length texts.now < 2 ^ 32 }
     requires some { 1 ≤ min }
 {
-    listed::<Brand>(alloc, first, second, min, Blank::new(1))
+    listed::<Brand>(alloc, texts, min, Blank::new(1))
 }
 
 // Whether these are one group, of so many tokens at two places.
@@ -72,7 +75,7 @@ fn are_one(groups: &[Group], tokens: u32, first: Place, second: Place) -> bool {
 
 #[test]
 fn groups_are_listed(rt: HostRuntime) -> Result<(), Memory> {
-    let groups = groups_of(rt.alloc(), b"xabcy", b"abc", 2)?;
+    let groups = groups_of(rt.alloc(), &[b"xabcy".as_slice(), b"abc".as_slice()], 2)?;
     assert!(rt;
         are_one(
             &groups,
