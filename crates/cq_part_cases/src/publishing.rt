@@ -71,9 +71,10 @@ pub fn publish_three<W: Made, H: Hub<W>>(
 {
     let first = Arc::new(alloc, W::made())?;
     let second = Arc::new(alloc, W::made())?;
+    let third = Arc::new(alloc, W::made())?;
     publish_and_read(alloc, Project::P, Arc::try_clone(&first)?, hub, pass)?;
     publish_and_read(alloc, Project::Q, Arc::try_clone(&second)?, hub, pass)?;
-    publish_and_read(alloc, Project::P, Arc::new(alloc, W::made())?, hub, pass)?;
+    publish_and_read(alloc, Project::P, third, hub, pass)?;
     let floor = swept(alloc, hub, pass)?;
     Ok((first.looks(), second.looks(), floor))
 }
