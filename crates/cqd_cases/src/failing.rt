@@ -104,11 +104,12 @@ fn each_write_may_fail(rt: HostRuntime) -> Result<(), Memory> {
 }
 
 // Version 1 of the project `p` of `--chunk 2`, with the text `a` of language `any` at `t`.
-const FILE: &[u8] = b"CQTOK001\0\0\0\0\0\0\0`\0\0\0\0\0\0\0\x01\
-    \0\0\0\x02\0\0\0\0\0\x01p\0\0\0\0\0\0\0\x01\0\0\0\x01t\
-    \0\0\0\0\0\0\0\x01\0\0\0\0\0\0\0\0\0\x01\0\0\0\0\0\0\
-    \0\x01\0\0\0\0\0\0\0\x01\0\0\0\x01\0\0\0\0\0\0\0\0\x01\0\
-    \0\0\x01\0\0\0\x01\0\0\0\x01a\0\0\0\0";
+const FILE: [u8; 112] = [
+    67, 81, 84, 79, 75, 48, 48, 49, 0, 0, 0, 0, 0, 0, 0, 96, 0, 0, 0, 0, 0, 0, 0, 1, 0, 0, 0, 2, 0,
+    0, 0, 0, 0, 1, 112, 0, 0, 0, 0, 0, 0, 0, 1, 0, 0, 0, 1, 116, 0, 0, 0, 0, 0, 0, 0, 1, 0, 0, 0,
+    0, 0, 0, 0, 0, 0, 1, 0, 0, 0, 0, 0, 0, 0, 1, 0, 0, 0, 0, 0, 0, 0, 1, 0, 0, 0, 1, 0, 0, 0, 0, 0,
+    0, 0, 0, 1, 0, 0, 0, 1, 0, 0, 0, 1, 0, 0, 0, 1, 97, 0, 0, 0, 0,
+];
 
 const PUT: &[u8] =
     b"{\"op\":\"put\",\"project\":\"p\",\"path\":\"t\",\"lang\":\"any\",\"text\":\"a\"}\n";
@@ -118,7 +119,7 @@ const PUT: &[u8] =
 fn calls_of_export_may_fail(rt: HostRuntime) -> Result<(), Memory> {
     let alloc = rt.alloc();
     let words = "export p --chunk 2";
-    assert!(rt; ends_with(&rt, alloc, words, PUT, 1, (0, 0), FILE, 0)?);
+    assert!(rt; ends_with(&rt, alloc, words, PUT, 1, (0, 0), &FILE, 0)?);
     assert!(rt; ends_with(&rt, alloc, words, PUT, 65_536, (1, 0), b"", 2)?);
     assert!(rt; ends_with(&rt, alloc, words, PUT, 65_536, (0, 1), b"", 3)?);
     assert!(rt; ends_with(&rt, alloc, words, PUT, 100, (0, 2), &FILE[..100], 3)?);
@@ -135,7 +136,7 @@ const FILES: &[u8] =
 fn calls_of_ask_may_fail(rt: HostRuntime) -> Result<(), Memory> {
     let alloc = rt.alloc();
     let words = "ask --chunk 2";
-    let mut whole = Vec::from_slice(alloc, FILE)?;
+    let mut whole = Vec::from_slice(alloc, &FILE)?;
     whole.extend_from_slice(QUERY)?;
     assert!(rt; ends_with(&rt, alloc, words, &whole, 1, (0, 0), FILES, 0)?);
     assert!(rt; ends_with(&rt, alloc, words, &whole, 65_536, (1, 0), b"", 2)?);
