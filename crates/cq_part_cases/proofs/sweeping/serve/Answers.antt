@@ -5,7 +5,7 @@ use Rattle.cq_cells.specs.Passes.{by_of}
 use Rattle.cq_shared.specs.SharedPasses.{callers_of, state_of}
 use Rattle.cq_part_cases.proofs.sweeping.serve.Goals as goal
 
-pub publish_three-requires : goal.carry_out-requires
+pub publish_three-requires : goal.publish_three-requires
 publish_three-requires g c =
     let hub = c.args.hub.now in
     let p = c.args.pass in
