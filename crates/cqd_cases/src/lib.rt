@@ -3,20 +3,12 @@
 #![tactic(auto)]
 
 #[cfg(test)]
-mod clients;
+mod calls;
 #[cfg(test)]
-mod exported;
+mod clients;
 #[cfg(test)]
 mod failing;
 #[cfg(test)]
-mod kept;
-#[cfg(test)]
-mod options;
-#[cfg(test)]
-mod projects;
+mod held;
 #[cfg(test)]
 mod running;
-#[cfg(test)]
-mod scripts;
-#[cfg(test)]
-mod sessions;
