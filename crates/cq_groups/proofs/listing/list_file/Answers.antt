@@ -9,9 +9,6 @@ use Rattle.cq_groups.proofs.KeyLists.{one_list, most_to, on_ok, rises_none}
 use Rattle.cq_groups.proofs.ListedGroups.{file_groups, windows_of_keys, once_filtered, has_file-says}
 use Rattle.cq_groups.proofs.listing.list_file.Goals as goal
 
-pub list_keys-requires-clause-rising : goal.list_keys-requires-clause-rising
-list_keys-requires-clause-rising g c = (subst (λ (zs : List ℕ). AreAllRising (IsKeyIn (keys_in c.args.index.now.corpus) c.args.file) zs) (sym c.deref.ensures.value) c.in_ok-keys.ensures).ordered
-
 pub returns-in_err-groups-clause-asked_most : goal.returns-in_err-groups-clause-asked_most
 returns-in_err-groups-clause-asked_most g c = λ ks is.
     most_to _ _ (length ks) (length c.deref.result.now) (ap length c.deref.ensures.value ∙ one_list (IsKeyIn (keys_in c.args.index.now.corpus) c.args.file) c.in_ok-keys.keys.items ks c.in_ok-keys.ensures is) c.list_keys.ensures.asked_most
