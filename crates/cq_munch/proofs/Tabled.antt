@@ -1,0 +1,82 @@
+-- The element of a language of a table, from what its rows take.
+use Rattle.std.proofs.Common.{◌≡◌, ℕ, ◌+◌, ◌-◌, ◌<◌, ◌≤◌, Option, Some, None, Bool, true, false, if◌then◌else◌, List, [], ◌∷◌, length, take, drop, get_or, inl, ⊎_elim, refl, sym, ap, subst, ◌∙◌, arith, length-take-le}
+use Rattle.std.proofs.lemmas.Bool.{cases_Bool}
+use Rattle.std.proofs.lemmas.List.{take-map, length-map}
+use Rattle.cq_munch.specs.Characters.{characters}
+use Rattle.cq_munch.specs.Language.{Takes, has_mark}
+use Rattle.cq_munch.specs.Lexed.{unit_at}
+use Rattle.cq_munch.specs.Table.{Row, starts}
+use Rattle.cq_munch.specs.Tabled.{RowsTake, language_of, sign, unmarked_of}
+use Rattle.cq_munch.specs.declared.element.Found.{Found}
+use Rattle.cq_munch.specs.declared.element.Spell.{Spell}
+use Rattle.cq_munch.specs.declared.element.Spell.TheVariants.{Blank}
+use Rattle.cq_munch.specs.declared.unit.Unit.{Unit}
+use Rattle.cq_munch.proofs.Marks.{takes_mark_at, takes_unmarked}
+use Rattle.cq_munch.proofs.Texts.{characters_from, from_unit}
+
+-- a sign at the front
+pub sign_taken : (spell : Spell) (mode c : ℕ) (text : List ℕ) → RowsTake (sign spell c ∷ []) mode (c ∷ text) (Some (record { spell = spell; units = 1; mode = mode }))
+sign_taken spell mode c text = (
+  record {
+    some = omega arith;
+    within = omega arith;
+    spelled = (spell, inl (refl, refl));
+    longest = λ m more within h. ⊎_elim (λ own. let one = ap length own.1 in let long = length-take-le m (c ∷ text) within in omega (arith, one, long, more)) (λ none. none) h.1;
+  },
+  inl (refl, refl),
+  refl,
+)
+
+-- the units from a place on
+abbrev pub units_from : List Unit → ℕ → List Unit
+units_from units at = take (length units - at) (drop at units)
+
+-- an element of so many characters has so many units there
+pub units_there : (units : List Unit) (at n : ℕ) → n ≤ length (characters (units_from units at)) → n ≡ length (take n (units_from units at))
+units_there units at n within =
+    let many = length-map (units_from units at) (λ (u : Unit). u.ch) in
+    sym (length-take-le n (units_from units at) (omega (arith, within, many)))
+
+module _ (is_blank : ℕ → ℕ → Bool) (rows : ℕ → List ℕ → List Row) (behind : ℕ → Spell → List ℕ → ℕ) (units : List Unit) (at mode : ℕ) (inside : at < length units) where
+  first_is : starts (is_blank mode) (drop at (characters units)) ≡ is_blank mode (unit_at units at).ch
+  first_is = ap (starts (is_blank mode)) (from_unit units at inside)
+
+  -- a byte order mark
+  pub mark_there : (next : ℕ) → has_mark at (drop at (characters units)) ≡ true → next ≡ behind mode Blank ((unit_at units at).ch ∷ [])
+      → Takes (language_of is_blank rows behind) at mode (drop at (characters units)) (Some (record { spell = Blank; units = 1; mode = next }))
+  mark_there next marked is = takes_mark_at (unmarked_of is_blank rows behind) units at mode next inside marked is
+
+  -- a blank, which is known by its character
+  pub blank_there : (next : ℕ) → is_blank mode (unit_at units at).ch ≡ true → next ≡ behind mode Blank ((unit_at units at).ch ∷ [])
+      → Takes (language_of is_blank rows behind) at mode (drop at (characters units)) (Some (record { spell = Blank; units = 1; mode = next }))
+  blank_there next blank is = ⊎_elim (λ marked. mark_there next marked is) unmarked (cases_Bool (has_mark at (drop at (characters units))))
+    where
+      unmarked : has_mark at (drop at (characters units)) ≡ false → Takes (language_of is_blank rows behind) at mode (drop at (characters units)) (Some (record { spell = Blank; units = 1; mode = next }))
+      unmarked none =
+          let c = (unit_at units at).ch in
+          let text = drop (at + 1) (characters units) in
+          let own = subst (λ rs. RowsTake rs mode (c ∷ text) (Some (record { spell = Blank; units = 1; mode = mode }))) (sym (ap (λ b. if b then sign Blank c ∷ [] else rows mode (c ∷ text)) blank)) (sign_taken Blank mode c text) in
+          takes_unmarked (unmarked_of is_blank rows behind) at mode (drop at (characters units)) none (Some (record { spell = Blank; units = 1; mode = next }))
+          (subst (λ t. Takes (unmarked_of is_blank rows behind) at mode t (Some (record { spell = Blank; units = 1; mode = next }))) (sym (from_unit units at inside)) (own.0, own.1, is))
+
+  -- no blank and no mark
+  module _ (visible : is_blank mode (unit_at units at).ch ≡ false) (none : has_mark at (drop at (characters units)) ≡ false) where
+    -- what the rows take from there on, if the text is the same
+    tried : (r : Option Found) → RowsTake (rows mode (characters (units_from units at))) mode (characters (units_from units at)) r
+        → RowsTake (if starts (is_blank mode) (drop at (characters units)) then sign Blank (get_or (drop at (characters units)) 0 0) ∷ [] else rows mode (drop at (characters units))) mode (drop at (characters units)) r
+    tried r h =
+        let text = drop at (characters units) in
+        subst (λ rs. RowsTake rs mode text r) (sym (ap (λ b. if b then sign Blank (get_or text 0 0) ∷ [] else rows mode text) (first_is ∙ visible)))
+        (subst (λ t. RowsTake (rows mode t) mode t r) (characters_from units at) h)
+
+    pub none_there : RowsTake (rows mode (characters (units_from units at))) mode (characters (units_from units at)) None → Takes (language_of is_blank rows behind) at mode (drop at (characters units)) None
+    none_there h = takes_unmarked (unmarked_of is_blank rows behind) at mode (drop at (characters units)) none None (tried None h)
+
+    pub some_there : (found : Found) (next : ℕ) → RowsTake (rows mode (characters (units_from units at))) mode (characters (units_from units at)) (Some found)
+        → next ≡ behind mode found.spell (characters (take found.units (units_from units at)))
+        → Takes (language_of is_blank rows behind) at mode (drop at (characters units)) (Some (record { spell = found.spell; units = found.units; mode = next }))
+    some_there found next h is =
+        let own = tried (Some found) h in
+        let part = sym (take-map (λ (u : Unit). u.ch) found.units (units_from units at)) ∙ ap (take found.units) (characters_from units at) in
+        takes_unmarked (unmarked_of is_blank rows behind) at mode (drop at (characters units)) none (Some (record { spell = found.spell; units = found.units; mode = next }))
+        (own.0, own.1, is ∙ ap (behind mode found.spell) part)
