@@ -1,6 +1,7 @@
 -- No spelling is of two kinds: the table finds one row for each.
 use Rattle.std.proofs.Common.{◌≡◌, ◌-◌, true, [], ◌∷◌, map, refl}
 use Rattle.std.specs.List.{list_all}
+use Rattle.std.specs.Prelude.{codes}
 use Rattle.cq_munch.specs.Automata.{Tables, entry_at, row_fits, rows_fit, fits}
 use Rattle.cq_munch.specs.Behind.{any_takes_empty}
 use Rattle.cq_munch.specs.Language.{HasOneKind}
@@ -8,13 +9,13 @@ use Rattle.cq_munch.specs.Patterned.{patterns_of}
 use Rattle.cq_munch.specs.PlainNames.{plain_fits}
 use Rattle.cq_munch.specs.Quotes.{quoted}
 use Rattle.cq_munch.specs.Scanners.{IsScanner}
-use Rattle.cq_munch.specs.Table.{table}
-use Rattle.cq_munch.specs.declared.ends.LineEnds.TheVariants.{Feed}
-use Rattle.cq_munch.proofs.OneKind.{of_table, of_commented, of_marked}
+use Rattle.cq_munch.specs.Table.{begins}
+use Rattle.cq_munch.specs.Tabled.{stays}
+use Rattle.cq_munch.proofs.OneKind.{either, of_language, one_row}
 use Rattle.cq_munch.proofs.Reserving.{one_kind_reserved, words_spelled}
 use Rattle.cq_munch.proofs.Seen.{itself_below}
 use Rattle.cq_munch.proofs.Steps.{behind_word}
-use Rattle.cq_lex_go.specs.Go.{go, others, rows, unmarked}
+use Rattle.cq_lex_go.specs.Go.{go, is_blank, others, rows_at}
 use Rattle.cq_lex_go.specs.Numbers.{number}
 use Rattle.cq_lex_go.specs.RawStrings.{raw_string}
 use Rattle.cq_lex_go.specs.Scanner.{scanned, texts}
@@ -49,4 +50,8 @@ is_scanner = record {
 }
 
 pub one_kind_of_go : HasOneKind go
-one_kind_of_go = of_marked unmarked (of_commented Feed (table rows) (of_table rows (one_kind_reserved stood name keywords others NAMES SPELLS scanner is_scanner)))
+one_kind_of_go =
+    of_language is_blank rows_at stays
+    (λ mode text.
+    either (begins (codes "/*") text) _ _ (one_row _)
+    (either (begins (codes "//") text) _ _ (one_row _) (one_kind_reserved stood name keywords others NAMES SPELLS scanner is_scanner)))

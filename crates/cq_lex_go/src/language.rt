@@ -1,35 +1,45 @@
-ghost use Rattle.std.specs.Prelude.{◌<◌, ◌^◌, Ok, ⊤, length, drop};
-ghost use Rattle.cq_munch.specs.Characters.{characters};
-ghost use Rattle.cq_munch.specs.Language.{Takes};
-ghost use Rattle.cq_lex_go.specs.Go.{go};
+ghost use Rattle.std.specs.Prelude.{Ok, ⊤};
+ghost use Rattle.cq_munch.specs.Tabled.{stays};
+ghost use Rattle.cq_lex_go.specs.Go.{go, is_blank, rows_at};
 ghost use Rattle.cq_lex_go.specs.OneKind.{one_kind_of_go};
 ghost use Rattle.cq_lex_go.specs.NoneLost.{none_lost};
 ghost use Rattle.cq_lex_go.specs.Semicolons.{completed};
 
-use crate::element::{is_blank, taken};
+use crate::element::taken;
 use crate::semicolon::with_semicolons;
 use cq_base::{Memory, Spelled, Text};
-use cq_munch::{Found, Lexis, Spell, Translated, Unit, is_mark, plain_units};
+use cq_munch::{Found, Lexis, Spell, Tabled, Translated, Unit, element_at, plain_units};
 use std::alloc::Global;
 
 /// The language Go.
 #[derive(Clone, Copy, Debug, PartialEq, Eq)]
 pub struct Go;
 
-// The element at a unit.
-fn taken_at(units: &[Unit], at: u32, mode: u64) -> Option<Found>
-    requires inside { at < length units.now }
-    requires short { length units.now < 2 ^ 32 }
-    ensures { Takes go at mode (drop at (characters units.now)) result }
-{
-    if is_mark(units, at) {
-        return Some(Found {
-            spell: Spell::Blank,
-            units: 1,
-            mode,
-        });
+impl Tabled for Go {
+    ghost is_blank = { is_blank };
+
+    ghost rows = { rows_at };
+
+    ghost behind = { stays };
+
+    #[inline(always)]
+    fn is_blank(_mode: u64, ch: char) -> bool {
+        ch == ' ' || ch == '\t' || ch == '\r' || ch == '\n'
     }
-    taken(&units[at as usize..], mode)
+
+    #[inline(always)]
+    fn after_blank(mode: u64, _ch: char) -> u64 {
+        mode
+    }
+
+    fn taken(units: &[Unit], mode: u64) -> Option<Found> {
+        taken(units, mode)
+    }
+
+    #[inline(always)]
+    fn mode_behind(mode: u64, _spell: Spell, _units: &[Unit]) -> u64 {
+        mode
+    }
 }
 
 impl Lexis for Go {
@@ -52,14 +62,7 @@ impl Lexis for Go {
     // So that a blank costs the loop over the elements no call.
     #[inline(always)]
     fn longest(&mut self, units: &[Unit], at: u32, mode: u64) -> Option<Found> {
-        if is_blank(units[at as usize].ch) {
-            return Some(Found {
-                spell: Spell::Blank,
-                units: 1,
-                mode,
-            });
-        }
-        taken_at(units, at, mode)
+        element_at::<Go>(units, at, mode)
     }
 
     fn complete(alloc: Global, text: &Text, tokens: Vec<Spelled>) -> Result<Vec<Spelled>, Memory> {

@@ -1,6 +1,7 @@
 -- No spelling is of two kinds: the table finds one row for each.
 use Rattle.std.proofs.Common.{◌≡◌, ◌-◌, true, [], ◌∷◌, map, refl}
 use Rattle.std.specs.List.{list_all}
+use Rattle.std.specs.Prelude.{codes}
 use Rattle.cq_munch.specs.Automata.{Tables, entry_at, row_fits, rows_fit, fits}
 use Rattle.cq_munch.specs.Behind.{any_takes_empty}
 use Rattle.cq_munch.specs.Language.{HasOneKind}
@@ -8,14 +9,16 @@ use Rattle.cq_munch.specs.Patterned.{patterns_of}
 use Rattle.cq_munch.specs.PlainNames.{plain_fits}
 use Rattle.cq_munch.specs.Quotes.{quoted}
 use Rattle.cq_munch.specs.Scanners.{IsScanner}
-use Rattle.cq_munch.specs.Table.{table}
-use Rattle.cq_munch.specs.declared.ends.LineEnds.TheVariants.{ReturnOrFeed}
-use Rattle.cq_munch.proofs.OneKind.{of_table, of_first, of_commented, of_marked}
+use Rattle.cq_munch.specs.Table.{begins}
+use Rattle.cq_munch.specs.Tabled.{stays}
+use Rattle.cq_munch.proofs.OneKind.{either, of_language, one_row}
 use Rattle.cq_munch.proofs.Reserving.{one_kind_reserved, words_spelled}
 use Rattle.cq_munch.proofs.Seen.{itself_below}
 use Rattle.cq_munch.proofs.Steps.{behind_word}
-use Rattle.cq_lex_java.specs.Java.{java, others, rows, text_blocks, ends, opens_text, opens_end, with_end, with_texts, unmarked}
+use Rattle.cq_lex_java.specs.Blocks.{opens}
+use Rattle.cq_lex_java.specs.Java.{is_blank, java, others, rows_at}
 use Rattle.cq_lex_java.specs.Numbers.{number}
+use Rattle.cq_lex_java.specs.Openers.{is_end}
 use Rattle.cq_lex_java.specs.Scanner.{scanned, texts}
 use Rattle.cq_lex_java.specs.Words.{begins_identifier, continues_identifier, stood, identifier, keywords}
 use Rattle.cq_lex_java.specs.declared.scanner.TheConstants.{CLASSES, STEPS, ENDS, NAMES, SPELLS}
@@ -49,7 +52,9 @@ is_scanner = record {
 
 pub one_kind_of_java : HasOneKind java
 one_kind_of_java =
-    of_marked unmarked
-    (of_commented ReturnOrFeed with_texts
-    (of_first opens_text text_blocks with_end
-    (of_first opens_end ends (table rows) (of_table rows (one_kind_reserved stood identifier keywords others NAMES SPELLS scanner is_scanner)))))
+    of_language is_blank rows_at stays
+    (λ mode text.
+    either (begins (codes "/*") text) _ _ (one_row _)
+    (either (begins (codes "//") text) _ _ (one_row _)
+    (either (opens text) _ _ (one_row _)
+    (either (is_end text) _ _ (one_row _) (one_kind_reserved stood identifier keywords others NAMES SPELLS scanner is_scanner)))))

@@ -1,24 +1,16 @@
-ghost use Rattle.std.specs.Prelude.{◌≡◌, ◌<◌, ◌^◌, ◌==◌, ◌||◌, ℕ, length};
+ghost use Rattle.std.specs.Prelude.{◌≡◌, ◌<◌, ◌^◌, length};
 ghost use Rattle.cq_munch.specs.Characters.{characters};
-ghost use Rattle.cq_munch.specs.Language.{Takes};
-ghost use Rattle.cq_munch.specs.Table.{table};
-ghost use Rattle.cq_lex_java.specs.Java.{rows, unmarked};
+ghost use Rattle.cq_munch.specs.Tabled.{RowsTake};
+ghost use Rattle.cq_lex_java.specs.Java.{rows, rows_at};
 ghost use Rattle.cq_lex_java.specs.Openers.{is_end};
 
 use crate::block::{closed_block, opens_block};
 use crate::scanner::{CLASSES, ENDS, NAMES, SPELLS, STEPS};
 use crate::words::{RESERVED, Seen};
 use cq_munch::{
-    Automaton, Found, LineEnds, Spell, Unit, found_of, longest_block_comment, longest_line_comment,
-    named_found, opens_comment,
+    Automaton, Found, LineEnds, Spell, Unit, block_comment, line_comment, named_found,
+    opens_comment, sign_at,
 };
-
-/// Whether the character is a blank.
-pub(crate) fn is_blank(ch: char) -> bool
-    ensures { result ≡ ((ch == 32) || ((ch == 9) || ((ch == 12) || ((ch == 13) || (ch == 10))))) }
-{
-    ch == ' ' || ch == '\t' || ch == '\u{C}' || ch == '\r' || ch == '\n'
-}
 
 // Whether the character U+001A is all that is left.
 fn is_end(units: &[Unit]) -> bool
@@ -33,7 +25,7 @@ fn is_end(units: &[Unit]) -> bool
 // The element at the front, if nothing is opened.
 fn element(units: &[Unit], mode: u64) -> Option<Found>
     requires { length units.now < 2 ^ 32 }
-    ensures { (at : ℕ) → Takes (table rows) at mode (characters units.now) result }
+    ensures { RowsTake rows mode (characters units.now) result }
 {
     let by = Automaton {
         classes: &CLASSES,
@@ -43,26 +35,22 @@ fn element(units: &[Unit], mode: u64) -> Option<Found>
     named_found::<Seen>(by, &NAMES, &SPELLS, &RESERVED, mode, units)
 }
 
-/// The element at the front, if there is no byte order mark.
+/// The element at the front.
 pub(crate) fn taken(units: &[Unit], mode: u64) -> Option<Found>
     requires { length units.now < 2 ^ 32 }
-    ensures { (at : ℕ) → Takes unmarked at mode (characters units.now) result }
+    ensures { RowsTake (rows_at mode (characters units.now)) mode (characters units.now) result }
 {
     if opens_comment(units, '*') {
-        return found_of(Spell::Comment, mode, longest_block_comment(units));
+        return block_comment(units, mode);
     }
     if opens_comment(units, '/') {
-        return found_of(
-            Spell::Comment,
-            mode,
-            longest_line_comment(LineEnds::ReturnOrFeed, units),
-        );
+        return line_comment(LineEnds::ReturnOrFeed, units, mode);
     }
     if opens_block(units) {
         return closed_block(units, mode);
     }
     if is_end(units) {
-        return found_of(Spell::Blank, mode, Some(1));
+        return sign_at('\u{1A}', Spell::Blank, units, mode);
     }
     element(units, mode)
 }

@@ -1,12 +1,12 @@
 -- The element of a language of a table, from what its rows take.
-use Rattle.std.proofs.Common.{◌≡◌, ℕ, ◌+◌, ◌-◌, ◌<◌, ◌≤◌, Option, Some, None, Bool, true, false, if◌then◌else◌, List, [], ◌∷◌, length, take, drop, get_or, inl, ⊎_elim, refl, sym, ap, subst, ◌∙◌, arith, length-take-le}
+use Rattle.std.proofs.Common.{◌≡◌, ℕ, ◌+◌, ◌-◌, ◌<◌, ◌≤◌, Option, Some, None, Bool, true, false, if◌then◌else◌, List, [], ◌∷◌, length, take, drop, inl, ⊎_elim, refl, sym, ap, subst, ◌∙◌, arith, length-take-le}
 use Rattle.std.proofs.lemmas.Bool.{cases_Bool}
 use Rattle.std.proofs.lemmas.List.{take-map, length-map}
 use Rattle.cq_munch.specs.Characters.{characters}
 use Rattle.cq_munch.specs.Language.{Takes, has_mark}
 use Rattle.cq_munch.specs.Lexed.{unit_at}
 use Rattle.cq_munch.specs.Table.{Row, starts}
-use Rattle.cq_munch.specs.Tabled.{RowsTake, language_of, sign, unmarked_of}
+use Rattle.cq_munch.specs.Tabled.{RowsTake, language_of, sign, unmarked_of, with_blanks}
 use Rattle.cq_munch.specs.declared.element.Found.{Found}
 use Rattle.cq_munch.specs.declared.element.Spell.{Spell}
 use Rattle.cq_munch.specs.declared.element.Spell.TheVariants.{Blank}
@@ -32,10 +32,25 @@ abbrev pub units_from : List Unit → ℕ → List Unit
 units_from units at = take (length units - at) (drop at units)
 
 -- an element of so many characters has so many units there
-pub units_there : (units : List Unit) (at n : ℕ) → n ≤ length (characters (units_from units at)) → n ≡ length (take n (units_from units at))
+pub units_there : (units : List Unit) (at n : ℕ) → n ≤ length (drop at (characters units)) → n ≡ length (take n (units_from units at))
 units_there units at n within =
+    let same = ap length (characters_from units at) in
     let many = length-map (units_from units at) (λ (u : Unit). u.ch) in
-    sym (length-take-le n (units_from units at) (omega (arith, within, many)))
+    sym (length-take-le n (units_from units at) (omega (arith, within, same, many)))
+
+-- what the rows take of these units
+pub from_rest : (rows : ℕ → List ℕ → List Row) (units : List Unit) (at mode : ℕ) (r : Option Found) → RowsTake (rows mode (characters (units_from units at))) mode (characters (units_from units at)) r
+    → RowsTake (rows mode (drop at (characters units))) mode (drop at (characters units)) r
+from_rest rows units at mode r h = subst (λ t. RowsTake (rows mode t) mode t r) (characters_from units at) h
+
+-- rows by a test
+pub then_rows : (t : Bool) (rows others : List Row) (mode : ℕ) (text : List ℕ) (r : Option Found) → t ≡ true → RowsTake rows mode text r → RowsTake (if t then rows else others) mode text r
+then_rows true rows others mode text r is h = h
+then_rows false rows others mode text r is h = absurd (cc)
+
+pub else_rows : (t : Bool) (rows others : List Row) (mode : ℕ) (text : List ℕ) (r : Option Found) → t ≡ false → RowsTake others mode text r → RowsTake (if t then rows else others) mode text r
+else_rows true rows others mode text r is h = absurd (cc)
+else_rows false rows others mode text r is h = h
 
 module _ (is_blank : ℕ → ℕ → Bool) (rows : ℕ → List ℕ → List Row) (behind : ℕ → Spell → List ℕ → ℕ) (units : List Unit) (at mode : ℕ) (inside : at < length units) where
   first_is : starts (is_blank mode) (drop at (characters units)) ≡ is_blank mode (unit_at units at).ch
@@ -55,24 +70,19 @@ module _ (is_blank : ℕ → ℕ → Bool) (rows : ℕ → List ℕ → List Row
       unmarked none =
           let c = (unit_at units at).ch in
           let text = drop (at + 1) (characters units) in
-          let own = subst (λ rs. RowsTake rs mode (c ∷ text) (Some (record { spell = Blank; units = 1; mode = mode }))) (sym (ap (λ b. if b then sign Blank c ∷ [] else rows mode (c ∷ text)) blank)) (sign_taken Blank mode c text) in
+          let own = then_rows (is_blank mode c) (sign Blank c ∷ []) (rows mode (c ∷ text)) mode (c ∷ text) (Some (record { spell = Blank; units = 1; mode = mode })) blank (sign_taken Blank mode c text) in
           takes_unmarked (unmarked_of is_blank rows behind) at mode (drop at (characters units)) none (Some (record { spell = Blank; units = 1; mode = next }))
           (subst (λ t. Takes (unmarked_of is_blank rows behind) at mode t (Some (record { spell = Blank; units = 1; mode = next }))) (sym (from_unit units at inside)) (own.0, own.1, is))
 
   -- no blank and no mark
   module _ (visible : is_blank mode (unit_at units at).ch ≡ false) (none : has_mark at (drop at (characters units)) ≡ false) where
-    -- what the rows take from there on, if the text is the same
-    tried : (r : Option Found) → RowsTake (rows mode (characters (units_from units at))) mode (characters (units_from units at)) r
-        → RowsTake (if starts (is_blank mode) (drop at (characters units)) then sign Blank (get_or (drop at (characters units)) 0 0) ∷ [] else rows mode (drop at (characters units))) mode (drop at (characters units)) r
-    tried r h =
-        let text = drop at (characters units) in
-        subst (λ rs. RowsTake rs mode text r) (sym (ap (λ b. if b then sign Blank (get_or text 0 0) ∷ [] else rows mode text) (first_is ∙ visible)))
-        (subst (λ t. RowsTake (rows mode t) mode t r) (characters_from units at) h)
+    tried : (r : Option Found) → RowsTake (rows mode (drop at (characters units))) mode (drop at (characters units)) r → RowsTake (with_blanks is_blank rows mode (drop at (characters units))) mode (drop at (characters units)) r
+    tried r h = else_rows (starts (is_blank mode) (drop at (characters units))) _ (rows mode (drop at (characters units))) mode (drop at (characters units)) r (first_is ∙ visible) h
 
-    pub none_there : RowsTake (rows mode (characters (units_from units at))) mode (characters (units_from units at)) None → Takes (language_of is_blank rows behind) at mode (drop at (characters units)) None
+    pub none_there : RowsTake (rows mode (drop at (characters units))) mode (drop at (characters units)) None → Takes (language_of is_blank rows behind) at mode (drop at (characters units)) None
     none_there h = takes_unmarked (unmarked_of is_blank rows behind) at mode (drop at (characters units)) none None (tried None h)
 
-    pub some_there : (found : Found) (next : ℕ) → RowsTake (rows mode (characters (units_from units at))) mode (characters (units_from units at)) (Some found)
+    pub some_there : (found : Found) (next : ℕ) → RowsTake (rows mode (drop at (characters units))) mode (drop at (characters units)) (Some found)
         → next ≡ behind mode found.spell (characters (take found.units (units_from units at)))
         → Takes (language_of is_blank rows behind) at mode (drop at (characters units)) (Some (record { spell = found.spell; units = found.units; mode = next }))
     some_there found next h is =
