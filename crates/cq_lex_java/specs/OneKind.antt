@@ -1,9 +1,7 @@
 -- No spelling is of two kinds: the table finds one row for each.
-use Rattle.std.proofs.Common.{◌≡◌, ◌-◌, true, [], ◌∷◌, map, refl}
-use Rattle.std.specs.List.{list_all}
+use Rattle.std.proofs.Common.{◌≡◌, true, [], ◌∷◌, refl}
 use Rattle.std.specs.Prelude.{codes}
-use Rattle.cq_munch.specs.Automata.{Tables, entry_at, row_fits, rows_fit, fits}
-use Rattle.cq_munch.specs.Behind.{any_takes_empty}
+use Rattle.cq_munch.specs.Automata.{Tables, row_fits, rows_fit, fits}
 use Rattle.cq_munch.specs.Language.{HasOneKind}
 use Rattle.cq_munch.specs.Patterned.{patterns_of}
 use Rattle.cq_munch.specs.PlainNames.{plain_fits}
@@ -12,9 +10,8 @@ use Rattle.cq_munch.specs.Scanners.{IsScanner}
 use Rattle.cq_munch.specs.Table.{begins}
 use Rattle.cq_munch.specs.Tabled.{stays}
 use Rattle.cq_munch.proofs.OneKind.{either, of_language, one_row}
-use Rattle.cq_munch.proofs.Reserving.{one_kind_reserved, words_spelled}
+use Rattle.cq_munch.proofs.Reserving.{one_kind_reserved, scanner_of}
 use Rattle.cq_munch.proofs.Seen.{itself_below}
-use Rattle.cq_munch.proofs.Steps.{behind_word}
 use Rattle.cq_lex_java.specs.Blocks.{opens}
 use Rattle.cq_lex_java.specs.Java.{is_blank, java, others, rows_at}
 use Rattle.cq_lex_java.specs.Numbers.{number}
@@ -31,24 +28,9 @@ pub scanner_fits : fits (patterns_of scanned) texts scanner ≡ true
 unfolding fits rows_fit row_fits identifier number quoted
 scanner_fits = refl
 
-plain_names : plain_fits NAMES scanner (entry_at scanner 0 97 - 1) 0 ≡ true
-unfolding plain_fits
-plain_names = refl
-
-keywords_pass : list_all (λ w. any_takes_empty (behind_word (map stood w) (identifier ∷ []))) keywords ≡ true
-unfolding identifier
-keywords_pass = refl
-
 pub is_scanner : IsScanner stood identifier keywords others NAMES SPELLS scanner
-is_scanner = record {
-  texts = texts;
-  state = entry_at scanner 0 97 - 1;
-  fits = (refl, scanner_fits);
-  plain = plain_names;
-  itself = itself_below begins_identifier continues_identifier;
-  words_named = words_spelled stood identifier keywords keywords_pass;
-  no_names = refl;
-}
+unfolding plain_fits identifier
+is_scanner = scanner_of stood identifier keywords others NAMES SPELLS scanner texts (itself_below begins_identifier continues_identifier) (refl, scanner_fits) refl refl refl
 
 pub one_kind_of_java : HasOneKind java
 one_kind_of_java =

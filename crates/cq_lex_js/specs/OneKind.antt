@@ -1,10 +1,8 @@
 -- No spelling is of two kinds: each table finds one row for each.
-use Rattle.std.proofs.Common.{◌≡◌, ℕ, ◌-◌, true, if◌then◌else◌, List, [], ◌∷◌, map, refl, ap}
+use Rattle.std.proofs.Common.{◌≡◌, ℕ, true, if◌then◌else◌, List, [], ◌∷◌, refl, ap}
 use Rattle.std.specs.Prelude.{codes}
-use Rattle.std.specs.List.{list_all}
 use Rattle.std.proofs.lemmas.Bool.{lt-ltb}
-use Rattle.cq_munch.specs.Automata.{Tables, entry_at, row_fits, rows_fit, fits}
-use Rattle.cq_munch.specs.Behind.{any_takes_empty}
+use Rattle.cq_munch.specs.Automata.{Tables, row_fits, rows_fit, fits}
 use Rattle.cq_munch.specs.Characters.{seen_as}
 use Rattle.cq_munch.specs.Language.{HasOneKind}
 use Rattle.cq_munch.specs.Patterned.{patterns_of}
@@ -12,10 +10,9 @@ use Rattle.cq_munch.specs.PlainNames.{plain_fits, IsItselfBelow}
 use Rattle.cq_munch.specs.Scanners.{IsScanner}
 use Rattle.cq_munch.specs.Table.{begins}
 use Rattle.cq_munch.proofs.OneKind.{OneKind, either, no_kind, of_language, one_row}
-use Rattle.cq_munch.proofs.Reserving.{one_kind_reserved, words_spelled}
+use Rattle.cq_munch.proofs.Reserving.{one_kind_reserved, scanner_of}
 use Rattle.cq_munch.proofs.RowScans.{one_kind}
 use Rattle.cq_munch.proofs.Seen.{one_kind_seen}
-use Rattle.cq_munch.proofs.Steps.{behind_word}
 use Rattle.cq_lex_js.specs.Characters.{begins_name, continues_name, is_wide_blank, stood}
 use Rattle.cq_lex_js.specs.JavaScript.{javascript, hashbang, others, is_plain_blank, opens_deeper, opens_literal, rows_at}
 use Rattle.cq_lex_js.specs.ChildrenScanner.{texts as children_texts}
@@ -41,39 +38,17 @@ pub scanner_fits : fits (patterns_of scanned) texts scanner ≡ true
 unfolding fits rows_fit row_fits name hashbang
 scanner_fits = refl
 
-plain_names : plain_fits NAMES scanner (entry_at scanner 0 97 - 1) 0 ≡ true
-unfolding plain_fits
-plain_names = refl
-
-keywords_pass : list_all (λ w. any_takes_empty (behind_word (map stood w) (name ∷ []))) keywords ≡ true
-unfolding name
-keywords_pass = refl
-
 itself : IsItselfBelow 128 stood
 itself c low = ap (λ b. if b then c else (if is_wide_blank c then 32 else seen_as begins_name continues_name c)) (lt-ltb c 128 low)
 
 pub is_scanner : IsScanner stood name keywords others NAMES SPELLS scanner
-is_scanner = record {
-  texts = texts;
-  state = entry_at scanner 0 97 - 1;
-  fits = (refl, scanner_fits);
-  plain = plain_names;
-  itself = itself;
-  words_named = words_spelled stood name keywords keywords_pass;
-  no_names = refl;
-}
+unfolding plain_fits name
+is_scanner = scanner_of stood name keywords others NAMES SPELLS scanner texts itself (refl, scanner_fits) refl refl refl
 
 -- and those after a point
 pub is_property_scanner : IsScanner stood name [] others NAMES SPELLS scanner
-is_property_scanner = record {
-  texts = texts;
-  state = entry_at scanner 0 97 - 1;
-  fits = (refl, scanner_fits);
-  plain = plain_names;
-  itself = itself;
-  words_named = λ s h. absurd h;
-  no_names = refl;
-}
+unfolding plain_fits name
+is_property_scanner = scanner_of stood name [] others NAMES SPELLS scanner texts itself (refl, scanner_fits) refl refl refl
 
 -- the other tables fit their rows
 pub children_fit : fits (patterns_of children) children_texts (record { classes = children_table.CLASSES; steps = children_table.STEPS; ends = children_table.ENDS }) ≡ true
