@@ -1,5 +1,5 @@
 -- The element of a language of a table, from what its rows take.
-use Rattle.std.proofs.Common.{◌≡◌, ℕ, ◌+◌, ◌-◌, ◌<◌, ◌≤◌, Option, Some, None, Bool, true, false, if◌then◌else◌, List, [], ◌∷◌, length, take, drop, inl, ⊎_elim, refl, sym, ap, subst, ◌∙◌, arith, length-take-le}
+use Rattle.std.proofs.Common.{◌≡◌, ℕ, ◌+◌, ◌-◌, ◌<◌, ◌≤◌, Option, Some, None, Bool, true, false, if◌then◌else◌, List, [], ◌∷◌, length, take, drop, get_or, inl, ⊎_elim, refl, sym, ap, subst, ◌∙◌, arith, length-take-le}
 use Rattle.std.proofs.lemmas.Bool.{cases_Bool}
 use Rattle.std.proofs.lemmas.List.{take-map, length-map}
 use Rattle.cq_munch.specs.Characters.{characters}
@@ -77,7 +77,7 @@ module _ (is_blank : ℕ → ℕ → Bool) (rows : ℕ → List ℕ → List Row
   -- no blank and no mark
   module _ (visible : is_blank mode (unit_at units at).ch ≡ false) (none : has_mark at (drop at (characters units)) ≡ false) where
     tried : (r : Option Found) → RowsTake (rows mode (drop at (characters units))) mode (drop at (characters units)) r → RowsTake (with_blanks is_blank rows mode (drop at (characters units))) mode (drop at (characters units)) r
-    tried r h = else_rows (starts (is_blank mode) (drop at (characters units))) _ (rows mode (drop at (characters units))) mode (drop at (characters units)) r (first_is ∙ visible) h
+    tried r h = else_rows (starts (is_blank mode) (drop at (characters units))) (sign Blank (get_or (drop at (characters units)) 0 0) ∷ []) (rows mode (drop at (characters units))) mode (drop at (characters units)) r (first_is ∙ visible) h
 
     pub none_there : RowsTake (rows mode (drop at (characters units))) mode (drop at (characters units)) None → Takes (language_of is_blank rows behind) at mode (drop at (characters units)) None
     none_there h = takes_unmarked (unmarked_of is_blank rows behind) at mode (drop at (characters units)) none None (tried None h)
