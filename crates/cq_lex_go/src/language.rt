@@ -1,19 +1,37 @@
-ghost use Rattle.std.specs.Prelude.{Ok, ⊤};
-ghost use Rattle.cq_munch.specs.Tabled.{stays};
-ghost use Rattle.cq_lex_go.specs.Go.{go, is_blank, rows_at};
+ghost use Rattle.std.specs.Prelude.{◌<◌, ◌^◌, Ok, ⊤, length};
+ghost use Rattle.cq_munch.specs.Characters.{characters};
+ghost use Rattle.cq_munch.specs.Tabled.{RowsTake, stays};
+ghost use Rattle.cq_lex_go.specs.Go.{go, is_blank, rows, rows_at};
 ghost use Rattle.cq_lex_go.specs.OneKind.{one_kind_of_go};
 ghost use Rattle.cq_lex_go.specs.NoneLost.{none_lost};
 ghost use Rattle.cq_lex_go.specs.Semicolons.{completed};
 
-use crate::element::taken;
+use crate::scanner::{CLASSES, ENDS, NAMES, SPELLS, STEPS};
 use crate::semicolon::with_semicolons;
+use crate::words::{RESERVED, Seen};
 use cq_base::{Memory, Spelled, Text};
-use cq_munch::{Found, Lexis, Spell, Tabled, Translated, Unit, element_at, plain_units};
+use cq_munch::{
+    Automaton, Found, Lexis, LineEnds, Spell, Tabled, Translated, Unit, block_comment, element_at,
+    line_comment, named_found, opens_comment, plain_units,
+};
 use std::alloc::Global;
 
 /// The language Go.
 #[derive(Clone, Copy, Debug, PartialEq, Eq)]
 pub struct Go;
+
+// The element at the front, if no comment is opened.
+fn element(units: &[Unit], mode: u64) -> Option<Found>
+    requires { length units.now < 2 ^ 32 }
+    ensures { RowsTake rows mode (characters units.now) result }
+{
+    let by = Automaton {
+        classes: &CLASSES,
+        steps: &STEPS,
+        ends: &ENDS,
+    };
+    named_found::<Seen>(by, &NAMES, &SPELLS, &RESERVED, mode, units)
+}
 
 impl Tabled for Go {
     ghost is_blank = { is_blank };
@@ -33,7 +51,13 @@ impl Tabled for Go {
     }
 
     fn taken(units: &[Unit], mode: u64) -> Option<Found> {
-        taken(units, mode)
+        if opens_comment(units, '*') {
+            return block_comment(units, mode);
+        }
+        if opens_comment(units, '/') {
+            return line_comment(LineEnds::Feed, units, mode);
+        }
+        element(units, mode)
     }
 
     #[inline(always)]

@@ -5,10 +5,14 @@ ghost use Rattle.cq_lex_java.specs.Java.{is_blank, java, rows_at};
 ghost use Rattle.cq_lex_java.specs.OneKind.{one_kind_of_java};
 ghost use Rattle.cq_lex_java.specs.Translation.{translated};
 
-use crate::element::taken;
+use crate::block::{closed_block, opens_block};
+use crate::element::{element, is_end};
 use crate::translation::unescaped;
 use cq_base::{Memory, Spelled, Text};
-use cq_munch::{Found, Lexis, Spell, Tabled, Translated, Unit, element_at, plain_units};
+use cq_munch::{
+    Found, Lexis, LineEnds, Spell, Tabled, Translated, Unit, block_comment, element_at,
+    line_comment, opens_comment, plain_units, sign_at,
+};
 use std::alloc::Global;
 
 /// The language Java.
@@ -33,7 +37,19 @@ impl Tabled for Java {
     }
 
     fn taken(units: &[Unit], mode: u64) -> Option<Found> {
-        taken(units, mode)
+        if opens_comment(units, '*') {
+            return block_comment(units, mode);
+        }
+        if opens_comment(units, '/') {
+            return line_comment(LineEnds::ReturnOrFeed, units, mode);
+        }
+        if opens_block(units) {
+            return closed_block(units, mode);
+        }
+        if is_end(units) {
+            return sign_at('\u{1A}', Spell::Blank, units, mode);
+        }
+        element(units, mode)
     }
 
     #[inline(always)]

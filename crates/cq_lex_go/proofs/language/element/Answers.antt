@@ -4,7 +4,7 @@ use Rattle.cq_lex_go.specs.Go.{others}
 use Rattle.cq_lex_go.specs.OneKind.{is_scanner}
 use Rattle.cq_lex_go.specs.Words.{name, keywords}
 use Rattle.cq_lex_go.specs.declared.words.TheConstants.{RESERVED}
-use Rattle.cq_lex_go.proofs.element.element.Goals as goal
+use Rattle.cq_lex_go.proofs.language.element.Goals as goal
 
 pub returns : goal.returns
 returns c =
