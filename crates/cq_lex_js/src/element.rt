@@ -60,6 +60,7 @@ fn opens_deeper(units: &[Unit], mode: u64) -> bool
 }
 
 // The element at the front after a point, if nothing is opened.
+#[inline(always)]
 fn property(units: &[Unit], mode: u64) -> Option<Found>
     requires { length units.now < 2 ^ 32 }
     ensures { RowsTake properties mode (characters units.now) result }
@@ -73,6 +74,7 @@ fn property(units: &[Unit], mode: u64) -> Option<Found>
 }
 
 // The element at the front anywhere else, if nothing is opened.
+#[inline(always)]
 fn element(units: &[Unit], mode: u64) -> Option<Found>
     requires { length units.now < 2 ^ 32 }
     ensures { RowsTake rows mode (characters units.now) result }

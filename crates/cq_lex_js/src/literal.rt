@@ -42,6 +42,7 @@ pub(crate) fn opens_literal(units: &[Unit], mode: u64) -> bool
 }
 
 /// The literal at the front, if it is closed.
+#[inline(always)]
 pub(crate) fn closed_literal(units: &[Unit], mode: u64) -> Option<Found>
     requires { length units.now < 2 ^ 32 }
     ensures { RowsTake (rows_seen lined literals) mode (characters units.now) result }
