@@ -1,6 +1,6 @@
 -- The element of a language of a table, from what its rows take.
-use Rattle.std.proofs.Common.{◌≡◌, ℕ, ◌+◌, ◌-◌, ◌<◌, ◌≤◌, Option, Some, None, Bool, true, false, if◌then◌else◌, List, [], ◌∷◌, length, take, drop, get_or, inl, ⊎_elim, refl, sym, ap, subst, ◌∙◌, arith, length-take-le}
-use Rattle.std.proofs.lemmas.Bool.{cases_Bool}
+use Rattle.std.proofs.Common.{◌≡◌, ◌==◌, ℕ, zero, suc, ◌+◌, ◌-◌, ◌<◌, ◌≤◌, Option, Some, None, Bool, true, false, if◌then◌else◌, List, [], ◌∷◌, length, take, drop, get_or, inl, ⊎_elim, refl, sym, ap, subst, ◌∙◌, arith, length-take-le}
+use Rattle.std.proofs.lemmas.Bool.{both_ways, cases_Bool, eq-eqb, eqb-true}
 use Rattle.std.proofs.lemmas.List.{take-map, length-map}
 use Rattle.cq_munch.specs.Characters.{characters}
 use Rattle.cq_munch.specs.Language.{Takes, has_mark}
@@ -15,7 +15,7 @@ use Rattle.cq_munch.proofs.Marks.{takes_mark_at, takes_unmarked}
 use Rattle.cq_munch.proofs.Texts.{characters_from, from_unit}
 
 -- a sign at the front
-pub sign_taken : (spell : Spell) (mode c : ℕ) (text : List ℕ) → RowsTake (sign spell c ∷ []) mode (c ∷ text) (Some (record { spell = spell; units = 1; mode = mode }))
+sign_taken : (spell : Spell) (mode c : ℕ) (text : List ℕ) → RowsTake (sign spell c ∷ []) mode (c ∷ text) (Some (record { spell = spell; units = 1; mode = mode }))
 sign_taken spell mode c text = (
   record {
     some = omega arith;
@@ -26,6 +26,18 @@ sign_taken spell mode c text = (
   inl (refl, refl),
   refl,
 )
+
+pub sign_there : (spell : Spell) (mode c : ℕ) (text : List ℕ) → starts (λ d. d == c) text ≡ true → RowsTake (sign spell c ∷ []) mode text (Some (record { spell = spell; units = 1; mode = mode }))
+sign_there spell mode c [] is = absurd (cc)
+sign_there spell mode c (d ∷ text) is = subst (λ e. RowsTake (sign spell e ∷ []) mode (d ∷ text) (Some (record { spell = spell; units = 1; mode = mode }))) (eqb-true d c is) (sign_taken spell mode d text)
+
+pub no_sign : (spell : Spell) (mode c : ℕ) (text : List ℕ) → starts (λ d. d == c) text ≡ false → RowsTake (sign spell c ∷ []) mode text None
+no_sign spell mode c [] is = λ m some within x. omega (arith, some, within)
+no_sign spell mode c (d ∷ text) is = λ m some within x. ⊎_elim (λ own. other m some own.1) (λ none. none) x.1
+  where
+    other : (m : ℕ) → 0 < m → take m (d ∷ text) ≡ c ∷ [] → ⊥
+    other zero some e = omega (arith, some)
+    other (suc m) some e = both_ways (d == c) is (eq-eqb d c (cc))
 
 -- the units from a place on
 abbrev pub units_from : List Unit → ℕ → List Unit

@@ -40,6 +40,6 @@ pub use names::named_found;
 pub use plain::plain_units;
 pub use quoted::Quote;
 pub use rows::{better, found_of};
-pub use tabled::{Tabled, element_at, sign_at};
+pub use tabled::{Tabled, element_at, sign_at, starts_with};
 pub use unit::Unit;
 pub use words::{is_listed_by_letter, is_spelled};

@@ -1,8 +1,8 @@
-ghost use Rattle.std.specs.Prelude.{◌≡◌, ◌<◌, ◌^◌, ℕ, Bool, IsFalse, List, [], ◌∷◌, length, drop};
+ghost use Rattle.std.specs.Prelude.{◌≡◌, ◌==◌, ◌<◌, ◌^◌, ℕ, Bool, IsFalse, List, [], ◌∷◌, length, drop};
 ghost use Rattle.cq_munch.specs.Characters.{characters};
 ghost use Rattle.cq_munch.specs.Language.{Takes};
 ghost use Rattle.cq_munch.specs.Lexed.{unit_at};
-ghost use Rattle.cq_munch.specs.Table.{Row};
+ghost use Rattle.cq_munch.specs.Table.{Row, starts};
 ghost use Rattle.cq_munch.specs.Tabled.{RowsTake, language_of, sign};
 ghost use Rattle.cq_munch.specs.declared.element.Spell.{Spell};
 ghost use Rattle.cq_munch.specs.declared.element.Spell.TheVariants.{Blank};
@@ -83,20 +83,27 @@ pub fn element_at<X: Tabled>(units: &[Unit], at: u32, mode: u64) -> Option<Found
     taken_at::<X>(units, at, mode)
 }
 
+/// Whether this character is at the front.
+pub fn starts_with(ch: char, units: &[Unit]) -> bool
+    ensures { result ≡ starts (λ c. c == ch) (characters units.now) }
+{
+    match units {
+        [first, ..] => first.ch == ch,
+        [] => false,
+    }
+}
+
 /// Just this character, if it is at the front.
 pub fn sign_at(ch: char, spell: Spell, units: &[Unit], mode: u64) -> Option<Found>
     ensures { RowsTake (sign spell ch ∷ []) mode (characters units.now) result }
 {
-    match units {
-        [first, ..] => if first.ch == ch {
-            Some(Found {
-                spell,
-                units: 1,
-                mode,
-            })
-        } else {
-            None
-        },
-        [] => None,
+    if starts_with(ch, units) {
+        Some(Found {
+            spell,
+            units: 1,
+            mode,
+        })
+    } else {
+        None
     }
 }
