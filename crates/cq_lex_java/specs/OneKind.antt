@@ -1,5 +1,5 @@
 -- No spelling is of two kinds: the table finds one row for each.
-use Rattle.std.proofs.Common.{◌≡◌, true, [], ◌∷◌, refl}
+use Rattle.std.proofs.Common.{◌≡◌, true, refl}
 use Rattle.std.specs.Prelude.{codes}
 use Rattle.cq_munch.specs.Automata.{Tables, row_fits, rows_fit, fits}
 use Rattle.cq_munch.specs.Language.{HasOneKind}

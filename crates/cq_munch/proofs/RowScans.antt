@@ -1,9 +1,9 @@
 -- The elements that a table finds are those of its rows.
-use Rattle.std.proofs.Common.{◌≡◌, ℕ, zero, suc, ◌+◌, ◌-◌, ◌<◌, ◌≤◌, nat_le, Some, None, true, List, [], ◌∷◌, inl, inr, length, get_or, take, length-take-le, ⊎_elim, refl, sym, ap, subst, ◌∙◌, arith}
+use Rattle.std.proofs.Common.{◌≡◌, ℕ, zero, suc, ◌+◌, ◌-◌, ◌≤◌, nat_le, Some, None, true, List, [], ◌∷◌, inl, inr, length, get_or, take, ⊎_elim, refl, sym, ap, subst, ◌∙◌, arith}
 use Rattle.std.specs.List.{list_all}
 use Rattle.std.proofs.lemmas.Bool.{leb-true, and_parts}
 use Rattle.std.proofs.lemmas.List.{length-map}
-use Rattle.cq_munch.specs.Automata.{Tables, class_at, entry_at, row_from, row_of, HasRow, RowAt, rows_fit, fits}
+use Rattle.cq_munch.specs.Automata.{Tables, class_at, row_from, row_of, HasRow, RowAt, rows_fit, fits}
 use Rattle.cq_munch.specs.Behind.{SpellsAny}
 use Rattle.cq_munch.specs.Language.{Takes}
 use Rattle.cq_munch.specs.Pattern.{Pattern}
