@@ -13,13 +13,13 @@ use Rattle.cq_munch.specs.Quotes.{quoted, item}
 use Rattle.cq_munch.specs.Scanners.{IsScanner}
 use Rattle.cq_munch.specs.Table.{InTable, begins}
 use Rattle.cq_munch.specs.declared.element.Spell.{Spell}
-use Rattle.cq_munch.specs.declared.ends.LineEnds.TheVariants.{ReturnOrFeed}
-use Rattle.cq_munch.proofs.OneKind.{OneKind, either, one_more, one_row, of_language}
+use Rattle.cq_munch.specs.declared.ends.LineEnds.TheVariants.{Feed, ReturnOrFeed}
+use Rattle.cq_munch.proofs.OneKind.{OneKind, either, of_language, one_block, one_line, one_more, one_row}
 use Rattle.cq_munch.proofs.Reserving.{has_row, one_kind_reserved, scanner_of}
 use Rattle.cq_munch.proofs.RowScans.{no_more}
 use Rattle.cq_munch.proofs.Seen.{itself_below}
 use Rattle.cq_munch.proofs.Steps.{takes_empty-if}
-use Rattle.cq_lex_c.specs.C.{c as c_language, is_blank, rows, rows_at, texts as text_row, prefixed, no_names, unquoted, other, opens_header, mode_behind}
+use Rattle.cq_lex_c.specs.C.{c as c_language, is_blank, rows, rows_at, texts as text_row, prefixed, no_names, unquoted, other, headers, opens_header, mode_behind}
 use Rattle.cq_lex_c.specs.Characters.{begins_identifier, continues_identifier, stood}
 use Rattle.cq_lex_c.specs.Identifiers.{identifier, keywords}
 use Rattle.cq_lex_c.specs.Numbers.{number}
@@ -111,6 +111,6 @@ pub one_kind_of_c : HasOneKind c_language
 one_kind_of_c =
     of_language is_blank rows_at mode_behind
     (λ mode text.
-    either (opens_header mode text) _ _ (one_row _)
-    (either (begins (codes "/*") text) _ _ (one_row _)
-    (either (begins (codes "//") text) _ _ (one_row _) one_kind_of_rows)))
+    either (opens_header mode text) _ _ (one_row headers)
+    (either (begins (codes "/*") text) _ _ one_block
+    (either (begins (codes "//") text) _ _ (one_line Feed) one_kind_of_rows)))

@@ -9,7 +9,8 @@ use Rattle.cq_munch.specs.Quotes.{quoted}
 use Rattle.cq_munch.specs.Scanners.{IsScanner}
 use Rattle.cq_munch.specs.Table.{begins}
 use Rattle.cq_munch.specs.Tabled.{stays}
-use Rattle.cq_munch.proofs.OneKind.{either, of_language, one_row}
+use Rattle.cq_munch.specs.declared.ends.LineEnds.TheVariants.{Feed}
+use Rattle.cq_munch.proofs.OneKind.{either, of_language, one_block, one_line}
 use Rattle.cq_munch.proofs.Reserving.{one_kind_reserved, scanner_of}
 use Rattle.cq_munch.proofs.Seen.{itself_below}
 use Rattle.cq_lex_go.specs.Go.{go, is_blank, others, rows_at}
@@ -35,5 +36,5 @@ pub one_kind_of_go : HasOneKind go
 one_kind_of_go =
     of_language is_blank rows_at stays
     (λ mode text.
-    either (begins (codes "/*") text) _ _ (one_row _)
-    (either (begins (codes "//") text) _ _ (one_row _) (one_kind_reserved stood name keywords others NAMES SPELLS scanner is_scanner)))
+    either (begins (codes "/*") text) _ _ one_block
+    (either (begins (codes "//") text) _ _ (one_line Feed) (one_kind_reserved stood name keywords others NAMES SPELLS scanner is_scanner)))

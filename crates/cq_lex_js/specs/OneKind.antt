@@ -2,6 +2,7 @@
 use Rattle.std.proofs.Common.{◌≡◌, ℕ, true, if◌then◌else◌, List, [], refl, ap}
 use Rattle.std.specs.Prelude.{codes}
 use Rattle.std.proofs.lemmas.Bool.{lt-ltb}
+use Rattle.cq_base.specs.declared.token.Class.TheVariants.{Punct}
 use Rattle.cq_munch.specs.Automata.{Tables, row_fits, rows_fit, fits}
 use Rattle.cq_munch.specs.Characters.{seen_as}
 use Rattle.cq_munch.specs.Language.{HasOneKind}
@@ -9,11 +10,13 @@ use Rattle.cq_munch.specs.Patterned.{patterns_of}
 use Rattle.cq_munch.specs.PlainNames.{plain_fits, IsItselfBelow}
 use Rattle.cq_munch.specs.Scanners.{IsScanner}
 use Rattle.cq_munch.specs.Table.{begins}
-use Rattle.cq_munch.proofs.OneKind.{OneKind, either, no_kind, of_language, one_row}
+use Rattle.cq_munch.specs.declared.element.Spell.TheVariants.{Token}
+use Rattle.cq_munch.specs.declared.ends.LineEnds.TheVariants.{Separator}
+use Rattle.cq_munch.proofs.OneKind.{OneKind, either, no_kind, of_language, one_block, one_line, one_sign}
 use Rattle.cq_munch.proofs.Reserving.{one_kind_reserved, scanner_of}
 use Rattle.cq_munch.proofs.RowScans.{one_kind}
 use Rattle.cq_munch.proofs.Seen.{one_kind_seen}
-use Rattle.cq_lex_js.specs.Characters.{begins_name, continues_name, is_wide_blank, stood}
+use Rattle.cq_lex_js.specs.Characters.{begins_name, continues_name, is_wide_blank, lined, stood}
 use Rattle.cq_lex_js.specs.JavaScript.{javascript, hashbang, others, is_plain_blank, opens_deeper, opens_literal, rows_at}
 use Rattle.cq_lex_js.specs.ChildrenScanner.{texts as children_texts}
 use Rattle.cq_lex_js.specs.Jsx.{children, closing_tag, tag, tag_words, text}
@@ -67,11 +70,11 @@ one_kind_at : (mode : ℕ) (text : List ℕ) → OneKind (rows_at mode text)
 one_kind_at mode text =
     either (opens_deeper mode text) _ _ no_kind
     (either (is_among_children mode) _ _ (one_kind_seen stood children (one_kind children children_texts _ children_fit))
-    (either (begins (codes "/*") text) _ _ (one_row _)
-    (either (begins (codes "//") text) _ _ (one_row _)
+    (either (begins (codes "/*") text) _ _ one_block
+    (either (begins (codes "//") text) _ _ (one_line Separator)
     (either (is_in_tag mode) _ _ (one_kind_seen stood tag (one_kind tag tag_texts _ tag_fits))
-    (either (opens_literal mode text) _ _ (one_row _)
-    (either (is_choice text) _ _ (one_row _)
+    (either (opens_literal mode text) _ _ (one_kind_seen lined literals (one_kind literals literal_texts _ literals_fit))
+    (either (is_choice text) _ _ (one_sign (Token Punct) 63)
     (either (is_after_point mode) _ _ (one_kind_reserved stood name [] others NAMES SPELLS scanner is_property_scanner)
     (one_kind_reserved stood name keywords others NAMES SPELLS scanner is_scanner))))))))
 
@@ -79,4 +82,4 @@ pub one_kind_of_javascript : HasOneKind javascript
 one_kind_of_javascript = of_language is_plain_blank rows_at mode_behind one_kind_at
 
 pub one_kind_of_typescript : HasOneKind typescript
-one_kind_of_typescript = of_language is_plain_blank typed_at typed_behind (λ mode text. either (is_closing text) _ _ (one_row _) (one_kind_at mode text))
+one_kind_of_typescript = of_language is_plain_blank typed_at typed_behind (λ mode text. either (is_closing text) _ _ (one_sign (Token Punct) 62) (one_kind_at mode text))

@@ -1,11 +1,13 @@
 -- No spelling is of two kinds: what is enough for it, row by row and opener by opener.
 use Rattle.std.proofs.Common.{◌≡◌, ℕ, Bool, true, false, if◌then◌else◌, List, [], ◌∷◌, get_or, sym, ◌∙◌, ⊎_elim}
 use Rattle.std.specs.Prelude.{MatchBool}
+use Rattle.cq_munch.specs.Comments.{IsBlockComment, IsLineComment, blocks, lines}
 use Rattle.cq_munch.specs.Language.{Language, has_mark, marked, HasOneKind}
 use Rattle.cq_munch.specs.Table.{Row, InTable, starts}
 use Rattle.cq_munch.specs.Tabled.{language_of, sign, unmarked_of}
 use Rattle.cq_munch.specs.declared.element.Spell.{Spell}
-use Rattle.cq_munch.specs.declared.element.Spell.TheVariants.{Blank}
+use Rattle.cq_munch.specs.declared.element.Spell.TheVariants.{Blank, Comment}
+use Rattle.cq_munch.specs.declared.ends.LineEnds.{LineEnds}
 
 abbrev pub OneKind : List Row → Type 0
 OneKind rows = (s : List ℕ) (a b : Spell) → InTable rows a s → InTable rows b s → a ≡ b
@@ -23,6 +25,15 @@ one_more row rows rest same s a b h k =
 
 pub one_row : (row : Row) → OneKind (row ∷ [])
 one_row row = one_more row [] no_kind (λ s b own other. absurd other)
+
+pub one_block : OneKind blocks
+one_block = one_row (record { spell = Comment; set = IsBlockComment })
+
+pub one_line : (ends : LineEnds) → OneKind (lines ends)
+one_line ends = one_row (record { spell = Comment; set = IsLineComment ends })
+
+pub one_sign : (spell : Spell) (c : ℕ) → OneKind (sign spell c ∷ [])
+one_sign spell c = one_row (sign spell c)
 
 -- ---- a language
 
@@ -43,4 +54,4 @@ either false rows others h k = k
 pub of_language : (is_blank : ℕ → ℕ → Bool) (rows : ℕ → List ℕ → List Row) (behind : ℕ → Spell → List ℕ → ℕ) → ((mode : ℕ) (text : List ℕ) → OneKind (rows mode text)) → HasOneKind (language_of is_blank rows behind)
 of_language is_blank rows behind one =
     of_marked (unmarked_of is_blank rows behind)
-    (λ at mode text s. either (starts (is_blank mode) text) (sign Blank (get_or text 0 0) ∷ []) (rows mode text) (one_row (sign Blank (get_or text 0 0))) (one mode text) s)
+    (λ at mode text s. either (starts (is_blank mode) text) (sign Blank (get_or text 0 0) ∷ []) (rows mode text) (one_sign Blank (get_or text 0 0)) (one mode text) s)
