@@ -4,11 +4,11 @@ use Rattle.std.specs.Prelude.{codes}
 use Rattle.std.proofs.lemmas.Bool.{eqb-true, ltb-true, and_parts, both_ways, cases_Bool, or_cases}
 use Rattle.cq_base.proofs.Bools.{MatchBool-from_true, MatchBool-from_false}
 use Rattle.cq_munch.specs.Characters.{characters}
-use Rattle.cq_munch.specs.Comments.{IsBlockComment, blocks, lines}
+use Rattle.cq_munch.specs.Comments.{IsBlockComment, lines}
 use Rattle.cq_munch.specs.Language.{Takes, has_mark}
 use Rattle.cq_munch.specs.Lexed.{EndsAt, unit_at}
 use Rattle.cq_munch.specs.Longest.{LongestAt, IsAmong}
-use Rattle.cq_munch.specs.Table.{Row, InTable, begins}
+use Rattle.cq_munch.specs.Table.{InTable, begins}
 use Rattle.cq_munch.specs.Tabled.{sign, with_blanks}
 use Rattle.cq_munch.specs.declared.ends.LineEnds.TheVariants.{Feed}
 use Rattle.cq_munch.specs.declared.element.Spell.{Spell}
@@ -20,9 +20,10 @@ use Rattle.cq_munch.proofs.Reserving.{unless_reserved}
 use Rattle.cq_munch.proofs.RowScans.{row_there}
 use Rattle.cq_munch.proofs.Seen.{in_seen, seen_below}
 use Rattle.cq_munch.proofs.Tables.{below_each}
+use Rattle.cq_munch.proofs.Tabled.{At, at_test}
 use Rattle.cq_munch.proofs.Texts.{from_unit}
 use Rattle.cq_munch.proofs.WordLists.{among_passes}
-use Rattle.cq_lex_c.specs.C.{c, headers, is_blank, rows, rows_at, no_names, opens_header}
+use Rattle.cq_lex_c.specs.C.{c, is_blank, rows, rows_at, tests, no_names, opens_header}
 use Rattle.cq_lex_c.specs.Characters.{begins_identifier, continues_identifier, stood}
 use Rattle.cq_lex_c.specs.Identifiers.{identifier, keywords}
 use Rattle.cq_lex_c.specs.OneKind.{scanner, scanner_fits, is_scanner}
@@ -76,12 +77,6 @@ line_there (d ∷ []) h = let bad : false ≡ true = (and_parts (d == 47) false 
 line_there (d ∷ e ∷ s) h =
     (omega arith, (λ k. eqb-true d 47 (and_parts (d == 47) _ h).0 k ∷ eqb-true e 47 (and_parts (e == 47) true (and_parts (d == 47) _ h).1).0 k ∷ []))
 
-in_then : (test : Bool) (own others : List Row) (spell : Spell) (s : List ℕ) → test ≡ true → InTable own spell s → InTable (if test then own else others) spell s
-in_then test own others spell s is h = subst (λ b. InTable (if b then own else others) spell s) (sym is) h
-
-in_else : (test : Bool) (own others : List Row) (spell : Spell) (s : List ℕ) → test ≡ false → InTable others spell s → InTable (if test then own else others) spell s
-in_else test own others spell s is h = subst (λ b. InTable (if b then own else others) spell s) (sym is) h
-
 module _ (at mode d : ℕ) (s : List ℕ) (none : Takes c at mode (d ∷ s) None) where
   no_mark : (b : Bool) → has_mark at (d ∷ s) ≡ b → b ≡ false
   no_mark false e = refl
@@ -94,40 +89,36 @@ module _ (at mode d : ℕ) (s : List ℕ) (none : Takes c at mode (d ∷ s) None
   visible : is_blank 0 d ≡ false
   visible =
       ⊎_elim
-      (λ blank. absurd (untried Blank 1 (omega arith) (omega arith) (in_then (is_blank 0 d) (sign Blank d ∷ []) (rows_at mode (d ∷ s)) Blank (d ∷ []) blank (inl (refl, refl)))))
+      (λ blank. absurd (untried Blank 1 (omega arith) (omega arith) (at_test (λ rs. InTable rs Blank (d ∷ [])) ((is_blank 0 d, sign Blank d ∷ []) ∷ []) (rows_at mode (d ∷ s)) 0 (blank, inl (refl, refl)))))
       (λ no. no)
       (cases_Bool (is_blank 0 d))
 
-  no_row : (spell : Spell) (m : ℕ) → 0 < m → m ≤ length (d ∷ s) → InTable (rows_at mode (d ∷ s)) spell (take m (d ∷ s)) → ⊥
-  no_row spell m some within h = untried spell m some within (in_else (is_blank 0 d) (sign Blank d ∷ []) (rows_at mode (d ∷ s)) spell (take m (d ∷ s)) visible h)
+  -- nor has one of those beside the tests, if it is reached
+  no_row : (spell : Spell) (m n : ℕ) → 0 < m → m ≤ length (d ∷ s) → At (λ rs. InTable rs spell (take m (d ∷ s))) (tests mode (d ∷ s)) rows n → ⊥
+  no_row spell m n some within h =
+      untried spell m some within
+      (at_test (λ rs. InTable rs spell (take m (d ∷ s))) ((is_blank 0 d, sign Blank d ∷ []) ∷ []) (rows_at mode (d ∷ s)) 1 (visible, at_test (λ rs. InTable rs spell (take m (d ∷ s))) (tests mode (d ∷ s)) rows n h))
 
   no_header : opens_header mode (d ∷ s) ≡ false
   no_header =
       ⊎_elim
-      (λ is. absurd (header_not (d ∷ s) (λ m some within x. no_row (Token Word) m some within (in_then (opens_header mode (d ∷ s)) (headers ∷ []) _ (Token Word) (take m (d ∷ s)) is (inl (refl, x)))) (and_parts (mode == 2) (has_header (d ∷ s)) is).1))
+      (λ is. absurd (header_not (d ∷ s) (λ m some within x. no_row (Token Word) m 0 some within (is, inl (refl, x))) (and_parts (mode == 2) (has_header (d ∷ s)) is).1))
       (λ no. no)
       (cases_Bool (opens_header mode (d ∷ s)))
-
-  no_other : (spell : Spell) (m : ℕ) → 0 < m → m ≤ length (d ∷ s) → InTable (if begins (codes "/*") (d ∷ s) then blocks else (if begins (codes "//") (d ∷ s) then lines Feed else rows)) spell (take m (d ∷ s)) → ⊥
-  no_other spell m some within h = no_row spell m some within (in_else (opens_header mode (d ∷ s)) (headers ∷ []) _ spell (take m (d ∷ s)) no_header h)
 
   -- one of the other rows has the first character, or two slashes
   other_taken : begins (codes "/*") (d ∷ s) ≡ false → (b : Bool) → begins (codes "//") (d ∷ s) ≡ b → ⊥
   other_taken apart true e =
       let line = line_there (d ∷ s) e in
-      no_other Comment 2 (omega arith) line.0
-      (in_else (begins (codes "/*") (d ∷ s)) blocks _ Comment (take 2 (d ∷ s)) apart
-      (in_then (begins (codes "//") (d ∷ s)) (lines Feed) rows Comment (take 2 (d ∷ s)) e (subst (InTable (lines Feed) Comment) (sym line.1) (inl (refl, (refl, (refl, tt)))))))
+      no_row Comment 2 2 (omega arith) line.0 (no_header, (apart, (e, subst (InTable (lines Feed) Comment) (sym line.1) (inl (refl, (refl, (refl, tt)))))))
   other_taken apart false e =
-      let row = row_of_one d visible in
-      no_other row.0 1 (omega arith) (omega arith)
-      (in_else (begins (codes "/*") (d ∷ s)) blocks _ row.0 (d ∷ []) apart (in_else (begins (codes "//") (d ∷ s)) (lines Feed) rows row.0 (d ∷ []) e row.1))
+      let row = row_of_one d visible in no_row row.0 1 3 (omega arith) (omega arith) (no_header, (apart, (e, row.1)))
 
   pub comment_opens : begins (codes "/*") (d ∷ s) ≡ true
   comment_opens = ⊎_elim (λ yes. yes) (λ apart. absurd (other_taken apart (begins (codes "//") (d ∷ s)) refl)) (cases_Bool (begins (codes "/*") (d ∷ s)))
 
   pub comment_unclosed : LongestAt IsBlockComment (d ∷ s) None
-  comment_unclosed = λ m some within x. no_other Comment m some within (in_then (begins (codes "/*") (d ∷ s)) blocks _ Comment (take m (d ∷ s)) comment_opens (inl (refl, x)))
+  comment_unclosed = λ m some within x. no_row Comment m 1 some within (no_header, (comment_opens, inl (refl, x)))
 
 pub open_comment : (units : List Unit) (byte : ℕ) → EndsAt c units byte → IsOpenComment units byte
 open_comment units byte ends =

@@ -8,7 +8,7 @@ use Rattle.cq_munch.specs.Language.{Language}
 use Rattle.cq_munch.specs.Pattern.{Pattern, except, ◌∣◌}
 use Rattle.cq_munch.specs.Patterned.{any_word, Patterned, with_reserved}
 use Rattle.cq_munch.specs.Table.{Row, begins}
-use Rattle.cq_munch.specs.Tabled.{language_of}
+use Rattle.cq_munch.specs.Tabled.{language_of, tried}
 use Rattle.cq_munch.specs.declared.element.Spell.{Spell}
 use Rattle.cq_munch.specs.declared.element.Spell.TheVariants.{Blank, Comment, Token}
 use Rattle.cq_munch.specs.declared.ends.LineEnds.TheVariants.{Feed}
@@ -56,12 +56,11 @@ abbrev pub opens_header : ℕ → List ℕ → Bool
 opens_header mode text = (mode == 2) && has_header text
 
 -- At a header name, or if a comment is opened, only its own row is tried.
+abbrev pub tests : ℕ → List ℕ → List (Bool × List Row)
+tests mode text = (opens_header mode text, headers ∷ []) ∷ (begins (codes "/*") text, blocks) ∷ (begins (codes "//") text, lines Feed) ∷ []
+
 abbrev pub rows_at : ℕ → List ℕ → List Row
-rows_at mode text =
-    if opens_header mode text then headers ∷ []
-    else if begins (codes "/*") text then blocks
-    else if begins (codes "//") text then lines Feed
-    else rows
+rows_at mode text = tried (tests mode text) rows
 
 -- the hash, spelled in one of two ways
 abbrev pub is_hash : List ℕ → Bool

@@ -1,6 +1,5 @@
 -- No spelling is of two kinds: the table finds one row for each spelling without quotes, and none for a text in quotes.
 use Rattle.std.proofs.Common.{◌≡◌, ℕ, ◌-◌, true, false, List, [], ◌∷◌, ◌++◌, map, refl, sym, subst, ap, ◌∙◌, ⊎_elim, arith}
-use Rattle.std.specs.Prelude.{codes}
 use Rattle.std.proofs.lemmas.Bool.{eqb-true, both_ways}
 use Rattle.cq_munch.specs.Automata.{Tables, entry_at, row_of, row_fits, rows_fit, fits}
 use Rattle.cq_munch.specs.Behind.{takes_empty}
@@ -11,15 +10,15 @@ use Rattle.cq_munch.specs.Patterned.{patterns_of}
 use Rattle.cq_munch.specs.PlainNames.{plain_fits}
 use Rattle.cq_munch.specs.Quotes.{quoted, item}
 use Rattle.cq_munch.specs.Scanners.{IsScanner}
-use Rattle.cq_munch.specs.Table.{InTable, begins}
+use Rattle.cq_munch.specs.Table.{InTable}
 use Rattle.cq_munch.specs.declared.element.Spell.{Spell}
 use Rattle.cq_munch.specs.declared.ends.LineEnds.TheVariants.{Feed, ReturnOrFeed}
-use Rattle.cq_munch.proofs.OneKind.{OneKind, either, of_language, one_block, one_line, one_more, one_row}
+use Rattle.cq_munch.proofs.OneKind.{OneKind, of_language, of_tests, one_block, one_line, one_more, one_row}
 use Rattle.cq_munch.proofs.Reserving.{has_row, one_kind_reserved, scanner_of}
 use Rattle.cq_munch.proofs.RowScans.{no_more}
 use Rattle.cq_munch.proofs.Seen.{itself_below}
 use Rattle.cq_munch.proofs.Steps.{takes_empty-if}
-use Rattle.cq_lex_c.specs.C.{c as c_language, is_blank, rows, rows_at, texts as text_row, prefixed, no_names, unquoted, other, headers, opens_header, mode_behind}
+use Rattle.cq_lex_c.specs.C.{c as c_language, is_blank, rows, rows_at, tests, texts as text_row, prefixed, no_names, unquoted, other, headers, mode_behind}
 use Rattle.cq_lex_c.specs.Characters.{begins_identifier, continues_identifier, stood}
 use Rattle.cq_lex_c.specs.Identifiers.{identifier, keywords}
 use Rattle.cq_lex_c.specs.Numbers.{number}
@@ -42,8 +41,8 @@ is_scanner = scanner_of stood identifier keywords no_names NAMES SPELLS scanner 
 -- ---- texts in quotes, which no other row has
 
 -- a quote, and at least one character more
-begins_with : (n : ℕ) (q : Pattern) → takes_empty q ≡ false → (s : List ℕ) → Spells (only n ▸ q) s → (d : ℕ) × (t : List ℕ) × (s ≡ n ∷ d ∷ t)
-begins_with n q some s (a, b, parts, (c, one, within), rest) = by b rest (parts ∙ ap (λ v. v ++ b) one ∙ ap (λ m. m ∷ b) (only_one n c within))
+begins : (n : ℕ) (q : Pattern) → takes_empty q ≡ false → (s : List ℕ) → Spells (only n ▸ q) s → (d : ℕ) × (t : List ℕ) × (s ≡ n ∷ d ∷ t)
+begins n q some s (a, b, parts, (c, one, within), rest) = by b rest (parts ∙ ap (λ v. v ++ b) one ∙ ap (λ m. m ∷ b) (only_one n c within))
   where
     only_one : (m d : ℕ) → in_ranges ((m, m) ∷ []) d ≡ true → d ≡ m
     only_one m d k = grind arith
@@ -54,7 +53,7 @@ begins_with n q some s (a, b, parts, (c, one, within), rest) = by b rest (parts 
 
 string_begins : (s : List ℕ) → IsString s → (d : ℕ) × (t : List ℕ) × (s ≡ 34 ∷ d ∷ t)
 unfolding quoted
-string_begins s h = begins_with 34 (many (item 34 ReturnOrFeed) ▸ only 34) refl s h
+string_begins s h = begins 34 (many (item 34 ReturnOrFeed) ▸ only 34) refl s h
 
 -- the table has no row for it, nor for it after one of these characters
 abbrev NoRow : List ℕ → Type 0
@@ -77,7 +76,7 @@ unfolding quoted
 no_text s h =
     ⊎_elim
     (λ a. let is = string_begins s a in subst NoRows (sym is.2) (at_quote is.0 is.1))
-    (λ b. let is = begins_with 39 (((item 39 ReturnOrFeed) ▸ many (item 39 ReturnOrFeed)) ▸ only 39) refl s b in subst NoRows (sym is.2) (at_apostrophe is.0 is.1))
+    (λ b. let is = begins 39 (((item 39 ReturnOrFeed) ▸ many (item 39 ReturnOrFeed)) ▸ only 39) refl s b in subst NoRows (sym is.2) (at_apostrophe is.0 is.1))
     h
 
 no_prefixed : (s : List ℕ) → IsPrefixed s → NoRow s
@@ -108,9 +107,4 @@ one_kind_of_rows =
     (λ s b own h. ⊎_elim (λ too. sym too.0) (λ h. absurd (unrowed b s (no_text s own).alone h)) h)
 
 pub one_kind_of_c : HasOneKind c_language
-one_kind_of_c =
-    of_language is_blank rows_at mode_behind
-    (λ mode text.
-    either (opens_header mode text) _ _ (one_row headers)
-    (either (begins (codes "/*") text) _ _ one_block
-    (either (begins (codes "//") text) _ _ (one_line Feed) one_kind_of_rows)))
+one_kind_of_c = of_language is_blank rows_at mode_behind (λ mode text. of_tests (tests mode text) rows (one_row headers, (one_block, (one_line Feed, one_kind_of_rows))))

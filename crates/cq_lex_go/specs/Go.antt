@@ -1,12 +1,12 @@
 -- The table of Go's elements.
-use Rattle.std.specs.Prelude.{ℕ, Bool, ◌||◌, ◌==◌, if◌then◌else◌, List, [], ◌∷◌, codes}
+use Rattle.std.specs.Prelude.{ℕ, Bool, ◌||◌, ◌==◌, List, [], ◌∷◌, codes}
 use Rattle.cq_base.specs.declared.token.Class.TheVariants.{Literal, Punct}
 use Rattle.cq_munch.specs.Comments.{blocks, lines}
 use Rattle.cq_munch.specs.Language.{Language}
 use Rattle.cq_munch.specs.Patterned.{any_word, Patterned, with_reserved}
 use Rattle.cq_munch.specs.Quotes.{quoted}
 use Rattle.cq_munch.specs.Table.{Row, begins}
-use Rattle.cq_munch.specs.Tabled.{language_of, stays}
+use Rattle.cq_munch.specs.Tabled.{language_of, stays, tried}
 use Rattle.cq_munch.specs.declared.element.Spell.TheVariants.{Token}
 use Rattle.cq_munch.specs.declared.ends.LineEnds.TheVariants.{Feed}
 use Rattle.cq_munch.specs.declared.quoted.Quote.TheVariants.{Double, Single}
@@ -29,11 +29,11 @@ abbrev pub rows : List Row
 rows = with_reserved stood name keywords others
 
 -- If a comment is opened, only its own row is tried.
+abbrev pub tests : List ℕ → List (Bool × List Row)
+tests text = (begins (codes "/*") text, blocks) ∷ (begins (codes "//") text, lines Feed) ∷ []
+
 abbrev pub rows_at : ℕ → List ℕ → List Row
-rows_at mode text =
-    if begins (codes "/*") text then blocks
-    else if begins (codes "//") text then lines Feed
-    else rows
+rows_at mode text = tried (tests text) rows
 
 abbrev pub go : Language
 go = language_of is_blank rows_at stays

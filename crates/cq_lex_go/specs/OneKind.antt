@@ -1,19 +1,17 @@
 -- No spelling is of two kinds: the table finds one row for each.
 use Rattle.std.proofs.Common.{◌≡◌, true, refl}
-use Rattle.std.specs.Prelude.{codes}
 use Rattle.cq_munch.specs.Automata.{Tables, row_fits, rows_fit, fits}
 use Rattle.cq_munch.specs.Language.{HasOneKind}
 use Rattle.cq_munch.specs.Patterned.{patterns_of}
 use Rattle.cq_munch.specs.PlainNames.{plain_fits}
 use Rattle.cq_munch.specs.Quotes.{quoted}
 use Rattle.cq_munch.specs.Scanners.{IsScanner}
-use Rattle.cq_munch.specs.Table.{begins}
 use Rattle.cq_munch.specs.Tabled.{stays}
 use Rattle.cq_munch.specs.declared.ends.LineEnds.TheVariants.{Feed}
-use Rattle.cq_munch.proofs.OneKind.{either, of_language, one_block, one_line}
+use Rattle.cq_munch.proofs.OneKind.{of_language, of_tests, one_block, one_line}
 use Rattle.cq_munch.proofs.Reserving.{one_kind_reserved, scanner_of}
 use Rattle.cq_munch.proofs.Seen.{itself_below}
-use Rattle.cq_lex_go.specs.Go.{go, is_blank, others, rows_at}
+use Rattle.cq_lex_go.specs.Go.{go, is_blank, others, rows, rows_at, tests}
 use Rattle.cq_lex_go.specs.Numbers.{number}
 use Rattle.cq_lex_go.specs.RawStrings.{raw_string}
 use Rattle.cq_lex_go.specs.Scanner.{scanned, texts}
@@ -35,6 +33,4 @@ is_scanner = scanner_of stood name keywords others NAMES SPELLS scanner texts (i
 pub one_kind_of_go : HasOneKind go
 one_kind_of_go =
     of_language is_blank rows_at stays
-    (λ mode text.
-    either (begins (codes "/*") text) _ _ one_block
-    (either (begins (codes "//") text) _ _ (one_line Feed) (one_kind_reserved stood name keywords others NAMES SPELLS scanner is_scanner)))
+    (λ mode text. of_tests (tests text) rows (one_block, (one_line Feed, one_kind_reserved stood name keywords others NAMES SPELLS scanner is_scanner)))

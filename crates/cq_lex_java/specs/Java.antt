@@ -1,12 +1,12 @@
 -- The table of Java's elements.
-use Rattle.std.specs.Prelude.{ℕ, Bool, ◌||◌, ◌==◌, if◌then◌else◌, List, [], ◌∷◌, codes}
+use Rattle.std.specs.Prelude.{ℕ, Bool, ◌||◌, ◌==◌, List, [], ◌∷◌, codes}
 use Rattle.cq_base.specs.declared.token.Class.TheVariants.{Literal, Punct}
 use Rattle.cq_munch.specs.Comments.{blocks, lines}
 use Rattle.cq_munch.specs.Language.{Language}
 use Rattle.cq_munch.specs.Patterned.{any_word, Patterned, rows_of, with_reserved}
 use Rattle.cq_munch.specs.Quotes.{quoted}
 use Rattle.cq_munch.specs.Table.{Row, begins}
-use Rattle.cq_munch.specs.Tabled.{language_of, sign, stays}
+use Rattle.cq_munch.specs.Tabled.{language_of, sign, stays, tried}
 use Rattle.cq_munch.specs.declared.element.Spell.TheVariants.{Blank, Token}
 use Rattle.cq_munch.specs.declared.ends.LineEnds.TheVariants.{ReturnOrFeed}
 use Rattle.cq_munch.specs.declared.quoted.Quote.TheVariants.{Double, Single}
@@ -33,13 +33,15 @@ rows = with_reserved stood identifier keywords others
 
 -- If a comment (JLS 3.7) or a text block (JLS 3.10.6) is opened, only its own row is tried. The character U+001A is a blank if nothing
 -- follows (JLS 3.5).
+abbrev pub tests : List ℕ → List (Bool × List Row)
+tests text =
+    (begins (codes "/*") text, blocks)
+    ∷ (begins (codes "//") text, lines ReturnOrFeed)
+    ∷ (opens text, rows_of text_blocks)
+    ∷ (is_end text, sign Blank 26 ∷ []) ∷ []
+
 abbrev pub rows_at : ℕ → List ℕ → List Row
-rows_at mode text =
-    if begins (codes "/*") text then blocks
-    else if begins (codes "//") text then lines ReturnOrFeed
-    else if opens text then rows_of text_blocks
-    else if is_end text then sign Blank 26 ∷ []
-    else rows
+rows_at mode text = tried (tests text) rows
 
 abbrev pub java : Language
 java = language_of is_blank rows_at stays

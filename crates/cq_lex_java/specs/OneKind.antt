@@ -1,6 +1,5 @@
 -- No spelling is of two kinds: the table finds one row for each.
 use Rattle.std.proofs.Common.{◌≡◌, true, refl}
-use Rattle.std.specs.Prelude.{codes}
 use Rattle.cq_base.specs.declared.token.Class.TheVariants.{Literal}
 use Rattle.cq_munch.specs.Automata.{Tables, row_fits, rows_fit, fits}
 use Rattle.cq_munch.specs.Language.{HasOneKind}
@@ -9,17 +8,15 @@ use Rattle.cq_munch.specs.Patterned.{patterns_of}
 use Rattle.cq_munch.specs.PlainNames.{plain_fits}
 use Rattle.cq_munch.specs.Quotes.{quoted}
 use Rattle.cq_munch.specs.Scanners.{IsScanner}
-use Rattle.cq_munch.specs.Table.{begins}
 use Rattle.cq_munch.specs.Tabled.{stays}
 use Rattle.cq_munch.specs.declared.element.Spell.TheVariants.{Blank, Token}
 use Rattle.cq_munch.specs.declared.ends.LineEnds.TheVariants.{ReturnOrFeed}
-use Rattle.cq_munch.proofs.OneKind.{either, of_language, one_block, one_line, one_row, one_sign}
+use Rattle.cq_munch.proofs.OneKind.{of_language, of_tests, one_block, one_line, one_row, one_sign}
 use Rattle.cq_munch.proofs.Reserving.{one_kind_reserved, scanner_of}
 use Rattle.cq_munch.proofs.Seen.{itself_below}
-use Rattle.cq_lex_java.specs.Blocks.{opens, text_block}
-use Rattle.cq_lex_java.specs.Java.{is_blank, java, others, rows_at}
+use Rattle.cq_lex_java.specs.Blocks.{text_block}
+use Rattle.cq_lex_java.specs.Java.{is_blank, java, others, rows, rows_at, tests}
 use Rattle.cq_lex_java.specs.Numbers.{number}
-use Rattle.cq_lex_java.specs.Openers.{is_end}
 use Rattle.cq_lex_java.specs.Scanner.{scanned, texts}
 use Rattle.cq_lex_java.specs.Words.{begins_identifier, continues_identifier, stood, identifier, keywords}
 use Rattle.cq_lex_java.specs.declared.scanner.TheConstants.{CLASSES, STEPS, ENDS, NAMES, SPELLS}
@@ -40,7 +37,5 @@ pub one_kind_of_java : HasOneKind java
 one_kind_of_java =
     of_language is_blank rows_at stays
     (λ mode text.
-    either (begins (codes "/*") text) _ _ one_block
-    (either (begins (codes "//") text) _ _ (one_line ReturnOrFeed)
-    (either (opens text) _ _ (one_row (record { spell = Token Literal; set = Spells text_block }))
-    (either (is_end text) _ _ (one_sign Blank 26) (one_kind_reserved stood identifier keywords others NAMES SPELLS scanner is_scanner)))))
+    of_tests (tests text) rows
+    (one_block, (one_line ReturnOrFeed, (one_row (record { spell = Token Literal; set = Spells text_block }), (one_sign Blank 26, one_kind_reserved stood identifier keywords others NAMES SPELLS scanner is_scanner)))))

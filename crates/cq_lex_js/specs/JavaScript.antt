@@ -1,5 +1,5 @@
 -- The table of JavaScript's elements (ECMA-262, 16th edition, clause 12).
-use Rattle.std.specs.Prelude.{ℕ, Bool, not, ◌&&◌, ◌||◌, ◌==◌, false, if◌then◌else◌, List, [], ◌∷◌, codes}
+use Rattle.std.specs.Prelude.{ℕ, Bool, not, ◌&&◌, ◌||◌, ◌==◌, false, List, [], ◌∷◌, codes}
 use Rattle.std.specs.Char.{is_ascii_digit}
 use Rattle.cq_base.specs.declared.token.Class.TheVariants.{Punct}
 use Rattle.cq_munch.specs.Comments.{blocks, lines}
@@ -7,7 +7,7 @@ use Rattle.cq_munch.specs.Language.{Language}
 use Rattle.cq_munch.specs.Pattern.{Pattern, except, only, many, ◌▸◌}
 use Rattle.cq_munch.specs.Patterned.{any_word, Patterned, rows_seen, with_reserved}
 use Rattle.cq_munch.specs.Table.{Row, begins, starts}
-use Rattle.cq_munch.specs.Tabled.{language_of, sign}
+use Rattle.cq_munch.specs.Tabled.{language_of, sign, tried}
 use Rattle.cq_munch.specs.declared.element.Spell.TheVariants.{Blank, Comment, Token}
 use Rattle.cq_munch.specs.declared.ends.LineEnds.TheVariants.{Separator}
 use Rattle.cq_lex_js.specs.Characters.{stood, lined}
@@ -63,17 +63,19 @@ opens_deeper mode text = is_full mode && starts (λ c. (c == 123) || ((c == 96) 
 
 -- What is tried: children and tags of JSX have rows of their own, and so do comments (12.4) and literals (12.9). No `?.` is before a
 -- digit (12.8, OptionalChainingPunctuator).
+abbrev pub tests : ℕ → List ℕ → List (Bool × List Row)
+tests mode text =
+    (opens_deeper mode text, [])
+    ∷ (is_among_children mode, rows_seen stood children)
+    ∷ (begins (codes "/*") text, blocks)
+    ∷ (begins (codes "//") text, lines Separator)
+    ∷ (is_in_tag mode, rows_seen stood tag)
+    ∷ (opens_literal mode text, rows_seen lined literals)
+    ∷ (is_choice text, sign (Token Punct) 63 ∷ [])
+    ∷ (is_after_point mode, properties) ∷ []
+
 abbrev pub rows_at : ℕ → List ℕ → List Row
-rows_at mode text =
-    if opens_deeper mode text then []
-    else if is_among_children mode then rows_seen stood children
-    else if begins (codes "/*") text then blocks
-    else if begins (codes "//") text then lines Separator
-    else if is_in_tag mode then rows_seen stood tag
-    else if opens_literal mode text then rows_seen lined literals
-    else if is_choice text then sign (Token Punct) 63 ∷ []
-    else if is_after_point mode then properties
-    else rows
+rows_at mode text = tried (tests mode text) rows
 
 abbrev pub javascript : Language
 javascript = language_of is_plain_blank rows_at mode_behind

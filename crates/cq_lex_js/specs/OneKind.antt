@@ -1,6 +1,5 @@
 -- No spelling is of two kinds: each table finds one row for each.
-use Rattle.std.proofs.Common.{◌≡◌, ℕ, true, if◌then◌else◌, List, [], refl, ap}
-use Rattle.std.specs.Prelude.{codes}
+use Rattle.std.proofs.Common.{◌≡◌, ℕ, true, if◌then◌else◌, List, [], ◌∷◌, refl, ap}
 use Rattle.std.proofs.lemmas.Bool.{lt-ltb}
 use Rattle.cq_base.specs.declared.token.Class.TheVariants.{Punct}
 use Rattle.cq_munch.specs.Automata.{Tables, row_fits, rows_fit, fits}
@@ -9,22 +8,21 @@ use Rattle.cq_munch.specs.Language.{HasOneKind}
 use Rattle.cq_munch.specs.Patterned.{patterns_of}
 use Rattle.cq_munch.specs.PlainNames.{plain_fits, IsItselfBelow}
 use Rattle.cq_munch.specs.Scanners.{IsScanner}
-use Rattle.cq_munch.specs.Table.{begins}
+use Rattle.cq_munch.specs.Tabled.{sign}
 use Rattle.cq_munch.specs.declared.element.Spell.TheVariants.{Token}
 use Rattle.cq_munch.specs.declared.ends.LineEnds.TheVariants.{Separator}
-use Rattle.cq_munch.proofs.OneKind.{OneKind, either, no_kind, of_language, one_block, one_line, one_sign}
+use Rattle.cq_munch.proofs.OneKind.{OneKind, no_kind, of_language, of_tests, one_block, one_line, one_sign}
 use Rattle.cq_munch.proofs.Reserving.{one_kind_reserved, scanner_of}
 use Rattle.cq_munch.proofs.RowScans.{one_kind}
 use Rattle.cq_munch.proofs.Seen.{one_kind_seen}
 use Rattle.cq_lex_js.specs.Characters.{begins_name, continues_name, is_wide_blank, lined, stood}
-use Rattle.cq_lex_js.specs.JavaScript.{javascript, hashbang, others, is_plain_blank, opens_deeper, opens_literal, rows_at}
+use Rattle.cq_lex_js.specs.JavaScript.{javascript, hashbang, others, is_plain_blank, rows, rows_at, tests}
 use Rattle.cq_lex_js.specs.ChildrenScanner.{texts as children_texts}
 use Rattle.cq_lex_js.specs.Jsx.{children, closing_tag, tag, tag_words, text}
 use Rattle.cq_lex_js.specs.LiteralScanner.{texts as literal_texts}
 use Rattle.cq_lex_js.specs.Literals.{literal, literals}
-use Rattle.cq_lex_js.specs.Modes.{is_after_point, is_among_children, is_in_tag, mode_behind}
+use Rattle.cq_lex_js.specs.Modes.{mode_behind}
 use Rattle.cq_lex_js.specs.Names.{name, keywords}
-use Rattle.cq_lex_js.specs.Punctuators.{is_choice}
 use Rattle.cq_lex_js.specs.Scanner.{scanned, texts}
 use Rattle.cq_lex_js.specs.TagScanner.{texts as tag_texts}
 use Rattle.cq_lex_js.specs.TypeScript.{is_closing, typed_at, typed_behind, typescript}
@@ -68,18 +66,33 @@ literals_fit = refl
 
 one_kind_at : (mode : ℕ) (text : List ℕ) → OneKind (rows_at mode text)
 one_kind_at mode text =
-    either (opens_deeper mode text) _ _ no_kind
-    (either (is_among_children mode) _ _ (one_kind_seen stood children (one_kind children children_texts _ children_fit))
-    (either (begins (codes "/*") text) _ _ one_block
-    (either (begins (codes "//") text) _ _ (one_line Separator)
-    (either (is_in_tag mode) _ _ (one_kind_seen stood tag (one_kind tag tag_texts _ tag_fits))
-    (either (opens_literal mode text) _ _ (one_kind_seen lined literals (one_kind literals literal_texts _ literals_fit))
-    (either (is_choice text) _ _ (one_sign (Token Punct) 63)
-    (either (is_after_point mode) _ _ (one_kind_reserved stood name [] others NAMES SPELLS scanner is_property_scanner)
-    (one_kind_reserved stood name keywords others NAMES SPELLS scanner is_scanner))))))))
+    of_tests (tests mode text) rows (
+      no_kind,
+      (
+        one_kind_seen stood children (one_kind children children_texts _ children_fit),
+        (
+          one_block,
+          (
+            one_line Separator,
+            (
+              one_kind_seen stood tag (one_kind tag tag_texts _ tag_fits),
+              (
+                one_kind_seen lined literals (one_kind literals literal_texts _ literals_fit),
+                (
+                  one_sign (Token Punct) 63,
+                  (one_kind_reserved stood name [] others NAMES SPELLS scanner is_property_scanner, one_kind_reserved stood name keywords others NAMES SPELLS scanner is_scanner),
+                ),
+              ),
+            ),
+          ),
+        ),
+      ),
+    )
 
 pub one_kind_of_javascript : HasOneKind javascript
 one_kind_of_javascript = of_language is_plain_blank rows_at mode_behind one_kind_at
 
 pub one_kind_of_typescript : HasOneKind typescript
-one_kind_of_typescript = of_language is_plain_blank typed_at typed_behind (λ mode text. either (is_closing text) _ _ (one_sign (Token Punct) 62) (one_kind_at mode text))
+one_kind_of_typescript =
+    of_language is_plain_blank typed_at typed_behind
+    (λ mode text. of_tests ((is_closing text, sign (Token Punct) 62 ∷ []) ∷ []) (rows_at mode text) (one_sign (Token Punct) 62, one_kind_at mode text))

@@ -5,7 +5,7 @@ use Rattle.cq_base.specs.declared.token.Class.{Class}
 use Rattle.cq_base.specs.declared.token.Class.TheVariants.{Ident, Word, Literal, Punct}
 use Rattle.cq_munch.specs.Language.{Language}
 use Rattle.cq_munch.specs.Table.{Row}
-use Rattle.cq_munch.specs.Tabled.{language_of, sign}
+use Rattle.cq_munch.specs.Tabled.{language_of, sign, tried}
 use Rattle.cq_munch.specs.declared.element.Spell.{Spell}
 use Rattle.cq_munch.specs.declared.element.Spell.TheVariants.{Blank, Comment, Token}
 use Rattle.cq_lex_js.specs.JavaScript.{is_plain_blank, rows_at}
@@ -19,7 +19,7 @@ is_closing (a ∷ b ∷ []) = (a == 62) && (b == 62)
 is_closing _ = false
 
 abbrev pub typed_at : ℕ → List ℕ → List Row
-typed_at mode text = if is_closing text then sign (Token Punct) 62 ∷ [] else rows_at mode text
+typed_at mode text = tried ((is_closing text, sign (Token Punct) 62 ∷ []) ∷ []) (rows_at mode text)
 
 -- A less-than sign opens nothing, so that no element of JSX is ever open. An exclamation mark after an operand asserts that it is there,
 -- and is part of it.

@@ -4,7 +4,7 @@ use Rattle.std.specs.Prelude.{MatchBool}
 use Rattle.cq_munch.specs.Comments.{IsBlockComment, IsLineComment, blocks, lines}
 use Rattle.cq_munch.specs.Language.{Language, has_mark, marked, HasOneKind}
 use Rattle.cq_munch.specs.Table.{Row, InTable, starts}
-use Rattle.cq_munch.specs.Tabled.{language_of, sign, unmarked_of}
+use Rattle.cq_munch.specs.Tabled.{language_of, sign, tried, unmarked_of}
 use Rattle.cq_munch.specs.declared.element.Spell.{Spell}
 use Rattle.cq_munch.specs.declared.element.Spell.TheVariants.{Blank, Comment}
 use Rattle.cq_munch.specs.declared.ends.LineEnds.{LineEnds}
@@ -47,9 +47,18 @@ of_marked lang one at mode text s a b h k =
 
 -- ---- the language of a table
 
-pub either : (t : Bool) (rows others : List Row) → OneKind rows → OneKind others → OneKind (if t then rows else others)
+either : (t : Bool) (rows others : List Row) → OneKind rows → OneKind others → OneKind (if t then rows else others)
 either true rows others h k = h
 either false rows others h k = k
+
+-- the rows beside each test have one kind, and the others too
+abbrev pub OneKinds : List (Bool × List Row) → List Row → Type 0
+OneKinds [] rows = OneKind rows
+OneKinds (own ∷ more) rows = OneKind own.1 × OneKinds more rows
+
+pub of_tests : (tests : List (Bool × List Row)) (rows : List Row) → OneKinds tests rows → OneKind (tried tests rows)
+of_tests [] rows h = h
+of_tests (own ∷ more) rows h = either own.0 own.1 (tried more rows) h.0 (of_tests more rows h.1)
 
 pub of_language : (is_blank : ℕ → ℕ → Bool) (rows : ℕ → List ℕ → List Row) (behind : ℕ → Spell → List ℕ → ℕ) → ((mode : ℕ) (text : List ℕ) → OneKind (rows mode text)) → HasOneKind (language_of is_blank rows behind)
 of_language is_blank rows behind one =

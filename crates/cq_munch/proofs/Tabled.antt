@@ -6,7 +6,7 @@ use Rattle.cq_munch.specs.Characters.{characters}
 use Rattle.cq_munch.specs.Language.{Takes, has_mark}
 use Rattle.cq_munch.specs.Lexed.{unit_at}
 use Rattle.cq_munch.specs.Table.{Row, starts}
-use Rattle.cq_munch.specs.Tabled.{RowsTake, language_of, sign, unmarked_of, with_blanks}
+use Rattle.cq_munch.specs.Tabled.{RowsTake, language_of, sign, tried, unmarked_of, with_blanks}
 use Rattle.cq_munch.specs.declared.element.Found.{Found}
 use Rattle.cq_munch.specs.declared.element.Spell.{Spell}
 use Rattle.cq_munch.specs.declared.element.Spell.TheVariants.{Blank}
@@ -55,14 +55,19 @@ pub from_rest : (rows : ℕ → List ℕ → List Row) (units : List Unit) (at m
     → RowsTake (rows mode (drop at (characters units))) mode (drop at (characters units)) r
 from_rest rows units at mode r h = subst (λ t. RowsTake (rows mode t) mode t r) (characters_from units at) h
 
--- rows by a test
-pub then_rows : (t : Bool) (rows others : List Row) (mode : ℕ) (text : List ℕ) (r : Option Found) → t ≡ true → RowsTake rows mode text r → RowsTake (if t then rows else others) mode text r
-then_rows true rows others mode text r is h = h
-then_rows false rows others mode text r is h = absurd (cc)
+-- the rows of one test hold it, if those before fail; past all tests the rows that are left
+abbrev pub At : (List Row → Type 0) → List (Bool × List Row) → List Row → ℕ → Type 0
+At P [] rows n = P rows
+At P (own ∷ more) rows zero = (own.0 ≡ true) × P own.1
+At P (own ∷ more) rows (suc n) = (own.0 ≡ false) × At P more rows n
 
-pub else_rows : (t : Bool) (rows others : List Row) (mode : ℕ) (text : List ℕ) (r : Option Found) → t ≡ false → RowsTake others mode text r → RowsTake (if t then rows else others) mode text r
-else_rows true rows others mode text r is h = absurd (cc)
-else_rows false rows others mode text r is h = h
+pub at_test : (P : List Row → Type 0) (tests : List (Bool × List Row)) (rows : List Row) (n : ℕ) → At P tests rows n → P (tried tests rows)
+at_test P [] rows n h = h
+at_test P (own ∷ more) rows zero h = subst (λ b. P (if b then own.1 else tried more rows)) (sym h.0) h.1
+at_test P (own ∷ more) rows (suc n) h = subst (λ b. P (if b then own.1 else tried more rows)) (sym h.0) (at_test P more rows n h.1)
+
+pub taken_at_test : (tests : List (Bool × List Row)) (rows : List Row) (mode : ℕ) (text : List ℕ) (r : Option Found) (n : ℕ) → At (λ rs. RowsTake rs mode text r) tests rows n → RowsTake (tried tests rows) mode text r
+taken_at_test tests rows mode text r n h = at_test (λ rs. RowsTake rs mode text r) tests rows n h
 
 module _ (is_blank : ℕ → ℕ → Bool) (rows : ℕ → List ℕ → List Row) (behind : ℕ → Spell → List ℕ → ℕ) (units : List Unit) (at mode : ℕ) (inside : at < length units) where
   first_is : starts (is_blank mode) (drop at (characters units)) ≡ is_blank mode (unit_at units at).ch
@@ -82,23 +87,25 @@ module _ (is_blank : ℕ → ℕ → Bool) (rows : ℕ → List ℕ → List Row
       unmarked none =
           let c = (unit_at units at).ch in
           let text = drop (at + 1) (characters units) in
-          let own = then_rows (is_blank mode c) (sign Blank c ∷ []) (rows mode (c ∷ text)) mode (c ∷ text) (Some (record { spell = Blank; units = 1; mode = mode })) blank (sign_taken Blank mode c text) in
+          let own = taken_at_test ((is_blank mode c, sign Blank c ∷ []) ∷ []) (rows mode (c ∷ text)) mode (c ∷ text) (Some (record { spell = Blank; units = 1; mode = mode })) 0 (blank, sign_taken Blank mode c text) in
           takes_unmarked (unmarked_of is_blank rows behind) at mode (drop at (characters units)) none (Some (record { spell = Blank; units = 1; mode = next }))
           (subst (λ t. Takes (unmarked_of is_blank rows behind) at mode t (Some (record { spell = Blank; units = 1; mode = next }))) (sym (from_unit units at inside)) (own.0, own.1, is))
 
   -- no blank and no mark
   module _ (visible : is_blank mode (unit_at units at).ch ≡ false) (none : has_mark at (drop at (characters units)) ≡ false) where
-    tried : (r : Option Found) → RowsTake (rows mode (drop at (characters units))) mode (drop at (characters units)) r → RowsTake (with_blanks is_blank rows mode (drop at (characters units))) mode (drop at (characters units)) r
-    tried r h = else_rows (starts (is_blank mode) (drop at (characters units))) (sign Blank (get_or (drop at (characters units)) 0 0) ∷ []) (rows mode (drop at (characters units))) mode (drop at (characters units)) r (first_is ∙ visible) h
+    own : (r : Option Found) → RowsTake (rows mode (drop at (characters units))) mode (drop at (characters units)) r → RowsTake (with_blanks is_blank rows mode (drop at (characters units))) mode (drop at (characters units)) r
+    own r h =
+        let text = drop at (characters units) in
+        taken_at_test ((starts (is_blank mode) text, sign Blank (get_or text 0 0) ∷ []) ∷ []) (rows mode text) mode text r 1 (first_is ∙ visible, h)
 
     pub none_there : RowsTake (rows mode (drop at (characters units))) mode (drop at (characters units)) None → Takes (language_of is_blank rows behind) at mode (drop at (characters units)) None
-    none_there h = takes_unmarked (unmarked_of is_blank rows behind) at mode (drop at (characters units)) none None (tried None h)
+    none_there h = takes_unmarked (unmarked_of is_blank rows behind) at mode (drop at (characters units)) none None (own None h)
 
     pub some_there : (found : Found) (next : ℕ) → RowsTake (rows mode (drop at (characters units))) mode (drop at (characters units)) (Some found)
         → next ≡ behind mode found.spell (characters (take found.units (units_from units at)))
         → Takes (language_of is_blank rows behind) at mode (drop at (characters units)) (Some (record { spell = found.spell; units = found.units; mode = next }))
     some_there found next h is =
-        let own = tried (Some found) h in
+        let all = own (Some found) h in
         let part = sym (take-map (λ (u : Unit). u.ch) found.units (units_from units at)) ∙ ap (take found.units) (characters_from units at) in
         takes_unmarked (unmarked_of is_blank rows behind) at mode (drop at (characters units)) none (Some (record { spell = found.spell; units = found.units; mode = next }))
-        (own.0, own.1, is ∙ ap (behind mode found.spell) part)
+        (all.0, all.1, is ∙ ap (behind mode found.spell) part)

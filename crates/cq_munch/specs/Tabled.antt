@@ -14,6 +14,11 @@ RowsTake rows mode text r = Takes (table rows) 0 mode text r
 abbrev pub sign : Spell → ℕ → Row
 sign spell c = record { spell = spell; set = λ s. s ≡ c ∷ [] }
 
+-- the rows beside the first test that passes, or these if none does
+abbrev pub tried : List (Bool × List Row) → List Row → List Row
+tried [] rows = rows
+tried (own ∷ more) rows = if own.0 then own.1 else tried more rows
+
 -- A blank of one character comes before all rows.
 abbrev pub with_blanks : (ℕ → ℕ → Bool) → (ℕ → List ℕ → List Row) → ℕ → List ℕ → List Row
 with_blanks is_blank rows mode text = if starts (is_blank mode) text then sign Blank (slice_index_or text 0 0) ∷ [] else rows mode text
