@@ -1,5 +1,5 @@
 -- The element at a character that begins no text in quotes, no comment and no header name.
-use Rattle.std.proofs.Common.{◌≡◌, ℕ, ◌+◌, ◌<◌, Option, None, true, false, ◌&&◌, ◌==◌, cond, List, [], ◌∷◌, length, drop, refl, sym, ap, subst, ◌∙◌}
+use Rattle.std.proofs.Common.{◌≡◌, ℕ, ◌+◌, ◌<◌, Option, None, true, false, ◌&&◌, ◌==◌, cond, List, ◌∷◌, length, drop, refl, sym, ap, subst, ◌∙◌}
 use Rattle.std.specs.Prelude.{codes}
 use Rattle.std.proofs.lemmas.Bool.{and_left, and_right, both_ways, eq-eqb}
 use Rattle.cq_munch.specs.Characters.{characters}
