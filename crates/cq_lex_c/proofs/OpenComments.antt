@@ -20,7 +20,7 @@ use Rattle.cq_munch.proofs.Reserving.{unless_reserved}
 use Rattle.cq_munch.proofs.RowScans.{row_there}
 use Rattle.cq_munch.proofs.Seen.{in_seen, seen_below}
 use Rattle.cq_munch.proofs.Tables.{below_each}
-use Rattle.cq_munch.proofs.Tabled.{At, at_test}
+use Rattle.cq_munch.proofs.Trying.{At, at_test}
 use Rattle.cq_munch.proofs.Texts.{from_unit}
 use Rattle.cq_munch.proofs.WordLists.{among_passes}
 use Rattle.cq_lex_c.specs.C.{c, is_blank, rows, rows_at, tests, no_names, opens_header}

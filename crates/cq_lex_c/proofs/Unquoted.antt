@@ -10,7 +10,7 @@ use Rattle.cq_munch.specs.declared.element.Found.{Found}
 use Rattle.cq_munch.specs.declared.unit.Unit.{Unit}
 use Rattle.cq_munch.proofs.CharacterTests.{apart_by}
 use Rattle.cq_munch.proofs.Joining.{row_more}
-use Rattle.cq_munch.proofs.Tabled.{taken_at_test}
+use Rattle.cq_munch.proofs.Trying.{taken_at_test}
 use Rattle.cq_munch.proofs.Texts.{from_unit}
 use Rattle.cq_lex_c.specs.C.{is_unquoted, unquoted, rows, rows_at, tests, texts as text_row, prefixed, opens_header}
 use Rattle.cq_lex_c.specs.Headers.{closes, has_header}

@@ -1,7 +1,7 @@
 use Rattle.std.proofs.Common.{Some, sym, ◌∙◌}
 use Rattle.cq_munch.specs.Characters.{characters}
 use Rattle.cq_munch.proofs.Joining.{one_row_taken}
-use Rattle.cq_munch.proofs.Tabled.{taken_at_test}
+use Rattle.cq_munch.proofs.Trying.{taken_at_test}
 use Rattle.cq_lex_c.specs.C.{headers, rows, tests}
 use Rattle.cq_lex_c.proofs.element.taken.Goals as goal
 

@@ -1,7 +1,7 @@
 use Rattle.std.proofs.Common.{sym, subst, ◌∙◌}
 use Rattle.cq_munch.specs.Longest.{LongestAt}
 use Rattle.cq_munch.specs.Tabled.{RowsTake}
-use Rattle.cq_munch.proofs.Tabled.{from_rest}
+use Rattle.cq_munch.proofs.Trying.{from_rest}
 use Rattle.cq_munch.proofs.Texts.{characters_from}
 use Rattle.cq_lex_c.specs.C.{rows_at, unquoted}
 use Rattle.cq_lex_c.specs.Texts.{IsText, IsPrefixed}

@@ -1,5 +1,5 @@
 use Rattle.std.proofs.Common.{sym, ◌∙◌}
-use Rattle.cq_munch.proofs.Tabled.{mark_there, none_there, some_there, units_there}
+use Rattle.cq_munch.proofs.Trying.{mark_there, none_there, some_there, units_there}
 use Rattle.cq_lex_c.specs.C.{is_blank, rows_at, mode_behind}
 use Rattle.cq_lex_c.proofs.language.taken_at.Goals as goal
 

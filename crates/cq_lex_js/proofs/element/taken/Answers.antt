@@ -1,6 +1,6 @@
 use Rattle.std.proofs.Common.{None, sym, ◌∙◌}
 use Rattle.cq_munch.specs.Characters.{characters}
-use Rattle.cq_munch.proofs.Tabled.{taken_at_test}
+use Rattle.cq_munch.proofs.Trying.{taken_at_test}
 use Rattle.cq_lex_js.specs.JavaScript.{rows, tests}
 use Rattle.cq_lex_js.proofs.element.taken.Goals as goal
 

@@ -1,5 +1,5 @@
 use Rattle.std.proofs.Common.{sym, ◌∙◌}
-use Rattle.cq_munch.proofs.Tabled.{blank_there}
+use Rattle.cq_munch.proofs.Trying.{blank_there}
 use Rattle.cq_munch.proofs.tabled.element_at.Goals as goal
 
 pub returns-then-is_blank : goal.returns-then-is_blank

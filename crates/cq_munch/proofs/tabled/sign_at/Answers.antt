@@ -1,6 +1,6 @@
 use Rattle.std.proofs.Common.{sym, ◌∙◌}
 use Rattle.cq_munch.specs.Characters.{characters}
-use Rattle.cq_munch.proofs.Tabled.{sign_there, no_sign}
+use Rattle.cq_munch.proofs.Trying.{sign_there, no_sign}
 use Rattle.cq_munch.proofs.tabled.sign_at.Goals as goal
 
 pub returns-then-starts_with : goal.returns-then-starts_with

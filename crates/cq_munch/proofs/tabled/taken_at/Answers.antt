@@ -1,5 +1,5 @@
 use Rattle.std.proofs.Common.{Some, None, sym, ◌∙◌}
-use Rattle.cq_munch.proofs.Tabled.{from_rest, mark_there, none_there, some_there, units_there}
+use Rattle.cq_munch.proofs.Trying.{from_rest, mark_there, none_there, some_there, units_there}
 use Rattle.cq_munch.proofs.tabled.taken_at.Goals as goal
 
 pub returns-then-is_mark : goal.returns-then-is_mark

@@ -1,5 +1,5 @@
 use Rattle.std.proofs.Common.{sym, ◌∙◌}
-use Rattle.cq_munch.proofs.Tabled.{blank_there}
+use Rattle.cq_munch.proofs.Trying.{blank_there}
 use Rattle.cq_lex_c.specs.C.{is_blank, rows_at, mode_behind}
 use Rattle.cq_lex_c.proofs.language.CLexis.longest.Goals as goal
 

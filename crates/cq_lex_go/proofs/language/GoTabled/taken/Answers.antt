@@ -1,6 +1,6 @@
 use Rattle.std.proofs.Common.{sym, ◌∙◌}
 use Rattle.cq_munch.specs.Characters.{characters}
-use Rattle.cq_munch.proofs.Tabled.{taken_at_test}
+use Rattle.cq_munch.proofs.Trying.{taken_at_test}
 use Rattle.cq_lex_go.specs.Go.{rows, tests}
 use Rattle.cq_lex_go.proofs.language.GoTabled.taken.Goals as goal
 

@@ -1,6 +1,6 @@
 use Rattle.std.proofs.Common.{sym, ◌∙◌}
 use Rattle.cq_munch.specs.Characters.{characters}
-use Rattle.cq_munch.proofs.Tabled.{taken_at_test}
+use Rattle.cq_munch.proofs.Trying.{taken_at_test}
 use Rattle.cq_lex_java.specs.Java.{rows, tests}
 use Rattle.cq_lex_java.proofs.language.JavaTabled.taken.Goals as goal
 

@@ -3,7 +3,7 @@ use Rattle.cq_base.specs.declared.token.Class.TheVariants.{Punct}
 use Rattle.cq_munch.specs.Characters.{characters}
 use Rattle.cq_munch.specs.Tabled.{sign}
 use Rattle.cq_munch.specs.declared.element.Spell.TheVariants.{Token}
-use Rattle.cq_munch.proofs.Tabled.{taken_at_test}
+use Rattle.cq_munch.proofs.Trying.{taken_at_test}
 use Rattle.cq_lex_js.specs.JavaScript.{rows_at}
 use Rattle.cq_lex_js.specs.TypeScript.{is_closing}
 use Rattle.cq_lex_js.proofs.typescript.TypeScriptTabled.taken.Goals as goal
