@@ -1,10 +1,10 @@
 -- No spelling is of two kinds: what is enough for it, row by row and opener by opener.
-use Rattle.std.proofs.Common.{◌≡◌, ℕ, Bool, true, false, if◌then◌else◌, List, [], ◌∷◌, get_or, sym, ◌∙◌, ⊎_elim}
+use Rattle.std.proofs.Common.{◌≡◌, ℕ, Bool, true, false, List, [], ◌∷◌, get_or, sym, ◌∙◌, ⊎_elim}
 use Rattle.std.specs.Prelude.{MatchBool}
 use Rattle.cq_munch.specs.Comments.{IsBlockComment, IsLineComment, blocks, lines}
 use Rattle.cq_munch.specs.Language.{Language, has_mark, marked, HasOneKind}
 use Rattle.cq_munch.specs.Table.{Row, InTable, starts}
-use Rattle.cq_munch.specs.Tabled.{language_of, sign, tried, unmarked_of}
+use Rattle.cq_munch.specs.Tabled.{language_of, pick, sign, tried, unmarked_of}
 use Rattle.cq_munch.specs.declared.element.Spell.{Spell}
 use Rattle.cq_munch.specs.declared.element.Spell.TheVariants.{Blank, Comment}
 use Rattle.cq_munch.specs.declared.ends.LineEnds.{LineEnds}
@@ -47,7 +47,7 @@ of_marked lang one at mode text s a b h k =
 
 -- ---- the language of a table
 
-either : (t : Bool) (rows others : List Row) → OneKind rows → OneKind others → OneKind (if t then rows else others)
+either : (t : Bool) (rows others : List Row) → OneKind rows → OneKind others → OneKind (pick t rows others)
 either true rows others h k = h
 either false rows others h k = k
 

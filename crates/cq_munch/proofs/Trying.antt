@@ -1,12 +1,12 @@
 -- The element of a language of a table, from what its rows take.
-use Rattle.std.proofs.Common.{◌≡◌, ◌==◌, ℕ, zero, suc, ◌+◌, ◌-◌, ◌<◌, ◌≤◌, Option, Some, None, Bool, true, false, if◌then◌else◌, List, [], ◌∷◌, length, take, drop, get_or, inl, ⊎_elim, refl, sym, ap, subst, ◌∙◌, arith, length-take-le}
+use Rattle.std.proofs.Common.{◌≡◌, ◌==◌, ℕ, zero, suc, ◌+◌, ◌-◌, ◌<◌, ◌≤◌, Option, Some, None, Bool, true, false, List, [], ◌∷◌, length, take, drop, get_or, inl, ⊎_elim, refl, sym, ap, subst, ◌∙◌, arith, length-take-le}
 use Rattle.std.proofs.lemmas.Bool.{both_ways, cases_Bool, eq-eqb, eqb-true}
 use Rattle.std.proofs.lemmas.List.{take-map, length-map}
 use Rattle.cq_munch.specs.Characters.{characters}
 use Rattle.cq_munch.specs.Language.{Takes, has_mark}
 use Rattle.cq_munch.specs.Lexed.{unit_at}
 use Rattle.cq_munch.specs.Table.{Row, starts}
-use Rattle.cq_munch.specs.Tabled.{RowsTake, language_of, sign, tried, unmarked_of, with_blanks}
+use Rattle.cq_munch.specs.Tabled.{RowsTake, language_of, pick, sign, tried, unmarked_of, with_blanks}
 use Rattle.cq_munch.specs.declared.element.Found.{Found}
 use Rattle.cq_munch.specs.declared.element.Spell.{Spell}
 use Rattle.cq_munch.specs.declared.element.Spell.TheVariants.{Blank}
@@ -63,8 +63,8 @@ At P (own ∷ more) rows (suc n) = (own.0 ≡ false) × At P more rows n
 
 pub at_test : (P : List Row → Type 0) (tests : List (Bool × List Row)) (rows : List Row) (n : ℕ) → At P tests rows n → P (tried tests rows)
 at_test P [] rows n h = h
-at_test P (own ∷ more) rows zero h = subst (λ b. P (if b then own.1 else tried more rows)) (sym h.0) h.1
-at_test P (own ∷ more) rows (suc n) h = subst (λ b. P (if b then own.1 else tried more rows)) (sym h.0) (at_test P more rows n h.1)
+at_test P (own ∷ more) rows zero h = subst (λ b. P (pick b own.1 (tried more rows))) (sym h.0) h.1
+at_test P (own ∷ more) rows (suc n) h = subst (λ b. P (pick b own.1 (tried more rows))) (sym h.0) (at_test P more rows n h.1)
 
 pub taken_at_test : (tests : List (Bool × List Row)) (rows : List Row) (mode : ℕ) (text : List ℕ) (r : Option Found) (n : ℕ) → At (λ rs. RowsTake rs mode text r) tests rows n → RowsTake (tried tests rows) mode text r
 taken_at_test tests rows mode text r n h = at_test (λ rs. RowsTake rs mode text r) tests rows n h

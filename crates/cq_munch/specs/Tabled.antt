@@ -1,5 +1,5 @@
 -- A language by its table: the rows that are tried in each mode, before each text.
-use Rattle.std.specs.Prelude.{◌≡◌, ℕ, Bool, if◌then◌else◌, Option, List, [], ◌∷◌, slice_index_or}
+use Rattle.std.specs.Prelude.{◌≡◌, ℕ, Bool, true, false, Option, List, [], ◌∷◌, slice_index_or}
 use Rattle.cq_munch.specs.Language.{Language, Takes, marked}
 use Rattle.cq_munch.specs.Table.{Row, InTable, table, starts}
 use Rattle.cq_munch.specs.declared.element.Found.{Found}
@@ -14,14 +14,19 @@ RowsTake rows mode text r = Takes (table rows) 0 mode text r
 abbrev pub sign : Spell → ℕ → Row
 sign spell c = record { spell = spell; set = λ s. s ≡ c ∷ [] }
 
+-- the first rows if a test passes, and else the others
+abbrev pub pick : Bool → List Row → List Row → List Row
+pick true own others = own
+pick false own others = others
+
 -- the rows beside the first test that passes, or these if none does
 abbrev pub tried : List (Bool × List Row) → List Row → List Row
 tried [] rows = rows
-tried (own ∷ more) rows = if own.0 then own.1 else tried more rows
+tried (own ∷ more) rows = pick own.0 own.1 (tried more rows)
 
 -- A blank of one character comes before all rows.
 abbrev pub with_blanks : (ℕ → ℕ → Bool) → (ℕ → List ℕ → List Row) → ℕ → List ℕ → List Row
-with_blanks is_blank rows mode text = if starts (is_blank mode) text then sign Blank (slice_index_or text 0 0) ∷ [] else rows mode text
+with_blanks is_blank rows mode text = pick (starts (is_blank mode) text) (sign Blank (slice_index_or text 0 0) ∷ []) (rows mode text)
 
 -- the language of these blanks and rows, with the mode after an element; a byte order mark comes before them
 abbrev pub unmarked_of : (ℕ → ℕ → Bool) → (ℕ → List ℕ → List Row) → (ℕ → Spell → List ℕ → ℕ) → Language
