@@ -214,7 +214,7 @@ def tell_extent(options: argparse.Namespace, tree: Tree, has_changes: bool, note
 
 def check_options(options: argparse.Namespace, metrics: Sequence[str]) -> None:
     if not options.base:
-        raise Misuse("check needs --base: the branch that this work goes back to, as --base origin/main")
+        raise Misuse("check needs --base: what the change is compared with, as --base origin/main")
     for metric in metrics:
         if metric not in JUDGED:
             raise Misuse(f"check judges changed lines, and {metric} is not known of lines; its metrics are {', '.join(JUDGED)}")
