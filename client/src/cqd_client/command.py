@@ -72,7 +72,7 @@ def tree_asked(options: argparse.Namespace, root: Path, own: Sequence[Path], not
         first = "".join(f" ({skipped.path}: {skipped.why})" for skipped in tree.skipped[:1])
         raise Fault(f"there are no source files in {where}{first}: nothing was uploaded or dropped")
     if len(tree.sources) > CHANGE_LIMIT - 2:
-        raise Fault(f"{len(tree.sources):,} source files, and a server holds at most {CHANGE_LIMIT - 2:,}: choose fewer by --include and "
+        raise Fault(f"{len(tree.sources):,} source files, and a server holds at most {CHANGE_LIMIT - 2:,}: choose fewer with --include and "
                     "--exclude")
     large = too_large(tree, TEXT_LIMIT)
     if large:
