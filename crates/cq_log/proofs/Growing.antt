@@ -34,39 +34,42 @@ module _ (set : Settings) where
   none_stays (line ∷ more) = none_stays more
 
   -- a line adds a change at the end, or none
-  torn_grows : (changes : List Change) (line : List ℕ) (now : Front) → after_torn changes line ≡ Some now → Later changes now.changes
-  torn_grows changes [] now is =
-      let same : front_of changes false ≡ now = cc in
-      same_later changes now.changes (ap (λ (f : Front). f.changes) same)
-  torn_grows changes (b ∷ line) now is = absurd (cc)
+  torn_grows : (front : Front) (line : List ℕ) (now : Front) → after_torn front line ≡ Some now → Later front.changes now.changes
+  torn_grows front [] now is =
+      let same : front_of front.own front.changes false ≡ now = cc in
+      same_later front.changes now.changes (ap (λ (f : Front). f.changes) same)
+  torn_grows front (b ∷ line) now is = absurd (cc)
 
-  accepted_grows : (changes : List Change) (change : Change) (b : Bool) (now : Front) → (if b then Some (front_of (changes ++ change ∷ []) false) else None) ≡ Some now → Later changes now.changes
-  accepted_grows changes change true now is =
-      let same : front_of (changes ++ change ∷ []) false ≡ now = cc in
+  accepted_grows : (front : Front) (line : List ℕ) (change : Change) (b : Bool) (now : Front) → (if b then Some (front_of (front.own ++ line ∷ []) (front.changes ++ change ∷ []) false) else None) ≡ Some now → Later front.changes now.changes
+  accepted_grows front line change true now is =
+      let same : front_of (front.own ++ line ∷ []) (front.changes ++ change ∷ []) false ≡ now = cc in
       (change ∷ [], ap (λ (f : Front). f.changes) same)
-  accepted_grows changes change false now is = absurd (cc)
+  accepted_grows front line change false now is = absurd (cc)
 
-  cut_off_grows : (changes : List Change) (b : Bool) (now : Front) → (if b then Some (front_of changes true) else None) ≡ Some now → Later changes now.changes
-  cut_off_grows changes true now is =
-      let same : front_of changes true ≡ now = cc in
-      same_later changes now.changes (ap (λ (f : Front). f.changes) same)
-  cut_off_grows changes false now is = absurd (cc)
+  cut_off_grows : (front : Front) (b : Bool) (now : Front) → (if b then Some (front_of front.own front.changes true) else None) ≡ Some now → Later front.changes now.changes
+  cut_off_grows front true now is =
+      let same : front_of front.own front.changes true ≡ now = cc in
+      same_later front.changes now.changes (ap (λ (f : Front). f.changes) same)
+  cut_off_grows front false now is = absurd (cc)
 
-  whole_grows : (changes : List Change) (says : Said) (now : Front) → after_whole set changes says ≡ Some now → Later changes now.changes
-  whole_grows changes TooLong now is = absurd (cc)
-  whole_grows changes (Read (Ok (request.Change change))) now is = accepted_grows changes change (is_accepted set changes change) now is
-  whole_grows changes (Read (Ok (request.Query query))) now is = absurd (cc)
-  whole_grows changes (Read (Ok request.State)) now is = absurd (cc)
-  whole_grows changes (Read (Err why)) now is = cut_off_grows changes (is_torn why) now is
+  whole_grows : (front : Front) (line : List ℕ) (says : Said) (now : Front) → after_whole set front line says ≡ Some now → Later front.changes now.changes
+  whole_grows front line TooLong now is = absurd (cc)
+  whole_grows front line (Read (Ok (request.Change change))) now is = accepted_grows front line change (is_accepted set front.changes change) now is
+  whole_grows front line (Read (Ok (request.Query query))) now is = absurd (cc)
+  whole_grows front line (Read (Ok request.State)) now is = absurd (cc)
+  whole_grows front line (Read (Err why)) now is = cut_off_grows front (is_torn why) now is
 
-  line_grows : (changes : List Change) (torn : Bool) (line : List ℕ) (now : Front) → after_line set (front_of changes torn) line ≡ Some now → Later changes now.changes
-  line_grows changes true line now is = torn_grows changes line now is
-  line_grows changes false line now is = whole_grows changes (said set.chunk line) now is
+  by_torn : (front : Front) (torn : Bool) (line : List ℕ) (now : Front) → (if torn then after_torn front line else after_whole set front line (said set.chunk line)) ≡ Some now → Later front.changes now.changes
+  by_torn front true line now is = torn_grows front line now is
+  by_torn front false line now is = whole_grows front line (said set.chunk line) now is
+
+  line_grows : (front : Front) (line : List ℕ) (now : Front) → after_line set front line ≡ Some now → Later front.changes now.changes
+  line_grows front line now is = by_torn front front.torn line now is
 
   lines_grow_on : (front now : Front) (line : List ℕ) (more : List (List ℕ)) (o : Option Front) → after_line set front line ≡ o → fold (onto set) o more ≡ Some now
       → ((mid : Front) → fold (onto set) (Some mid) more ≡ Some now → Later mid.changes now.changes) → Later front.changes now.changes
   lines_grow_on front now line more None is held rest = let none : None ≡ Some now = sym (none_stays more) ∙ held in absurd (cc)
-  lines_grow_on front now line more (Some mid) is held rest = later_later front.changes mid.changes now.changes (line_grows front.changes front.torn line mid is) (rest mid held)
+  lines_grow_on front now line more (Some mid) is held rest = later_later front.changes mid.changes now.changes (line_grows front line mid is) (rest mid held)
 
   pub lines_grow : (more : List (List ℕ)) (front now : Front) → fold (onto set) (Some front) more ≡ Some now → Later front.changes now.changes
   lines_grow [] front now held =

@@ -52,60 +52,63 @@ module _ {T : Type 0} (Has : Having T) (set : Settings) where
   next_held lines line front is = held_push set lines line ∙ ap (λ (o : Option Front). onto set o line) is
 
   -- after a whole line
-  whole_held : (lines : List (List ℕ)) (line : List ℕ) (changes : List Change) (says : Said) → held_in set lines ≡ Some (front_of changes false) → said set.chunk line ≡ says → held_in set (lines ++ line ∷ []) ≡ after_whole set changes says
-  whole_held lines line changes says is here = next_held lines line (front_of changes false) is ∙ ap (after_whole set changes) here
+  whole_held : (lines : List (List ℕ)) (line : List ℕ) (own : List (List ℕ)) (changes : List Change) (says : Said) → held_in set lines ≡ Some (front_of own changes false) → said set.chunk line ≡ says
+      → held_in set (lines ++ line ∷ []) ≡ after_whole set (front_of own changes false) line says
+  whole_held lines line own changes says is here = next_held lines line (front_of own changes false) is ∙ ap (after_whole set (front_of own changes false) line) here
 
   pub cut_off : (line : List ℕ) (t : T) → length line ≤ line_limit → line_says set.chunk line ≡ Err refusal.Json → TakesLine Has set false line t t (Some true)
   cut_off line t short is lines has = record {
     own = has.own;
     changes = has.changes;
-    held = whole_held lines line has.changes (Read (Err refusal.Json)) has.held (was_read set.chunk line (Err refusal.Json) short is);
+    held = whole_held lines line has.own has.changes (Read (Err refusal.Json)) has.held (was_read set.chunk line (Err refusal.Json) short is);
     has = has.has;
   }
 
-  other_held : (changes : List Change) (says : Result Request Refusal) → IsOther says → after_whole set changes (Read says) ≡ None
-  other_held changes (Ok (request.Change change)) other = absurd other
-  other_held changes (Ok (request.Query query)) other = refl
-  other_held changes (Ok request.State) other = refl
-  other_held changes (Err refusal.Json) other = absurd other
-  other_held changes (Err refusal.Op) other = refl
-  other_held changes (Err (refusal.Field name)) other = refl
-  other_held changes (Err refusal.Lang) other = refl
-  other_held changes (Err refusal.Path) other = refl
-  other_held changes (Err refusal.TooMuchText) other = refl
-  other_held changes (Err refusal.Min) other = refl
-  other_held changes (Err refusal.Scope) other = refl
-  other_held changes (Err refusal.Memory) other = refl
+  other_held : (front : Front) (line : List ℕ) (says : Result Request Refusal) → IsOther says → after_whole set front line (Read says) ≡ None
+  other_held front line (Ok (request.Change change)) other = absurd other
+  other_held front line (Ok (request.Query query)) other = refl
+  other_held front line (Ok request.State) other = refl
+  other_held front line (Err refusal.Json) other = absurd other
+  other_held front line (Err refusal.Op) other = refl
+  other_held front line (Err (refusal.Field name)) other = refl
+  other_held front line (Err refusal.Lang) other = refl
+  other_held front line (Err refusal.Path) other = refl
+  other_held front line (Err refusal.TooMuchText) other = refl
+  other_held front line (Err refusal.Min) other = refl
+  other_held front line (Err refusal.Scope) other = refl
+  other_held front line (Err refusal.Memory) other = refl
 
   pub other_refused : (line : List ℕ) (old new : T) → length line ≤ line_limit → IsOther (line_says set.chunk line) → TakesLine Has set false line old new None
-  other_refused line old new short other lines has = whole_held lines line has.changes (Read (line_says set.chunk line)) has.held (was_read set.chunk line (line_says set.chunk line) short refl) ∙ other_held has.changes (line_says set.chunk line) other
+  other_refused line old new short other lines has =
+      whole_held lines line has.own has.changes (Read (line_says set.chunk line)) has.held (was_read set.chunk line (line_says set.chunk line) short refl) ∙ other_held (front_of has.own has.changes false) line (line_says set.chunk line) other
 
   module _ (line : List ℕ) (old new : T) (change : Change) (short : length line ≤ line_limit) (is : line_says set.chunk line ≡ Ok (request.Change change)) where
-    change_held : (lines : List (List ℕ)) (changes : List Change) (b : Bool) → held_in set lines ≡ Some (front_of changes false) → is_accepted set changes change ≡ b
-        → held_in set (lines ++ line ∷ []) ≡ (if b then Some (front_of (changes ++ change ∷ []) false) else None)
-    change_held lines changes b held accepted =
-        whole_held lines line changes (Read (Ok (request.Change change))) held (was_read set.chunk line (Ok (request.Change change)) short is) ∙ ap (λ (b : Bool). if b then Some (front_of (changes ++ change ∷ []) false) else None) accepted
+    change_held : (lines own : List (List ℕ)) (changes : List Change) (b : Bool) → held_in set lines ≡ Some (front_of own changes false) → is_accepted set changes change ≡ b
+        → held_in set (lines ++ line ∷ []) ≡ (if b then Some (front_of (own ++ line ∷ []) (changes ++ change ∷ []) false) else None)
+    change_held lines own changes b held accepted =
+        whole_held lines line own changes (Read (Ok (request.Change change))) held (was_read set.chunk line (Ok (request.Change change)) short is)
+        ∙ ap (λ (b : Bool). if b then Some (front_of (own ++ line ∷ []) (changes ++ change ∷ []) false) else None) accepted
 
     pub change_taken : TakesOne Has old new line change true → TakesLine Has set false line old new (Some false)
     change_taken takes lines has =
         let more = takes set has.own has.changes has.has in
-        record { own = has.own ++ line ∷ []; changes = has.changes ++ change ∷ []; held = change_held lines has.changes true has.held more.0; has = more.1 }
+        record { own = has.own ++ line ∷ []; changes = has.changes ++ change ∷ []; held = change_held lines has.own has.changes true has.held more.0; has = more.1 }
 
     pub change_refused : TakesOne Has old new line change false → TakesLine Has set false line old new None
-    change_refused takes lines has = change_held lines has.changes false has.held (takes set has.own has.changes has.has)
+    change_refused takes lines has = change_held lines has.own has.changes false has.held (takes set has.own has.changes has.has)
 
   -- after a line that was cut off
   pub mends : (t : T) → TakesLine Has set true [] t t (Some false)
-  mends t lines has = record { own = has.own; changes = has.changes; held = next_held lines [] (front_of has.changes true) has.held; has = has.has }
+  mends t lines has = record { own = has.own; changes = has.changes; held = next_held lines [] (front_of has.own has.changes true) has.held; has = has.has }
 
-  some_torn : (changes : List Change) (line : List ℕ) → 0 < length line → after_torn changes line ≡ None
-  some_torn changes [] some = absurd (omega (arith, some))
-  some_torn changes (b ∷ line) some = refl
+  some_torn : (front : Front) (line : List ℕ) → 0 < length line → after_torn front line ≡ None
+  some_torn front [] some = absurd (omega (arith, some))
+  some_torn front (b ∷ line) some = refl
 
   pub does_not_mend : (line : List ℕ) (old new : T) → 0 < length line → TakesLine Has set true line old new None
-  does_not_mend line old new some lines has = next_held lines line (front_of has.changes true) has.held ∙ some_torn has.changes line some
+  does_not_mend line old new some lines has = next_held lines line (front_of has.own has.changes true) has.held ∙ some_torn (front_of has.own has.changes true) line some
 
   -- a line that is too long
   pub long_refused : (torn : Bool) (line : List ℕ) (t : T) (lines : List (List ℕ)) → line_limit < length line → HasHeld Has set lines torn t → held_in set (lines ++ line ∷ []) ≡ None
   long_refused true line t lines long has = does_not_mend line t t (omega (arith, long)) lines has
-  long_refused false line t lines long has = whole_held lines line has.changes TooLong has.held (was_long set.chunk line long)
+  long_refused false line t lines long has = whole_held lines line has.own has.changes TooLong has.held (was_long set.chunk line long)

@@ -20,23 +20,24 @@ pub record HoldsFirst (set : Settings) (lines : List (List ℕ)) (changes : List
 abbrev pub ALogGrows : Type 0
 ALogGrows = (set : Settings) (lines more : List (List ℕ)) (front : Front) → held_in set (lines ++ more) ≡ Some front → HoldsFirst set lines front.changes
 
--- the bytes hold just these changes, whether the last line was cut off or not
-pub record HoldsJust (set : Settings) (bytes : List ℕ) (changes : List Change) : Type 0 where
+-- the bytes hold just these changes by these lines, whether the last line was cut off or not
+pub record HoldsJust (set : Settings) (bytes : List ℕ) (own : List (List ℕ)) (changes : List Change) : Type 0 where
   pub torn : Bool
-  pub held : held_by set bytes ≡ Some (front_of changes torn)
+  pub held : held_by set bytes ≡ Some (front_of own changes torn)
 
--- with its mending a log holds what it held, and after it comes another line
-pub record IsMended (set : Settings) (bytes : List ℕ) (changes : List Change) : Type 0 where
-  pub held : held_by set bytes ≡ Some (front_of changes false)
+-- they do, and after them comes another line
+pub record IsMended (set : Settings) (bytes : List ℕ) (own : List (List ℕ)) (changes : List Change) : Type 0 where
+  pub held : held_by set bytes ≡ Some (front_of own changes false)
   pub closed : is_unclosed bytes ≡ false
 
+-- with its mending a log holds what it held
 abbrev pub MendingMends : Type 0
-MendingMends = (set : Settings) (bytes : List ℕ) (front : Front) → held_by set bytes ≡ Some front → IsMended set (bytes ++ mending (is_unclosed bytes) front.torn) front.changes
+MendingMends = (set : Settings) (bytes : List ℕ) (front : Front) → held_by set bytes ≡ Some front → IsMended set (bytes ++ mending (is_unclosed bytes) front.torn) front.own front.changes
 
 -- and so it does after each byte of the mending
 abbrev pub MendingChangesNothing : Type 0
 MendingChangesNothing =
-    (set : Settings) (bytes some more : List ℕ) (front : Front) → held_by set bytes ≡ Some front → some ++ more ≡ mending (is_unclosed bytes) front.torn → HoldsJust set (bytes ++ some) front.changes
+    (set : Settings) (bytes some more : List ℕ) (front : Front) → held_by set bytes ≡ Some front → some ++ more ≡ mending (is_unclosed bytes) front.torn → HoldsJust set (bytes ++ some) front.own front.changes
 
 -- the lines say these changes, and each is accepted after those before
 abbrev pub ContinueWith : Settings → List Change → List (List ℕ) → List Change → Type 0
@@ -51,4 +52,4 @@ abbrev pub ARestartIsTheSame : Type 0
 ARestartIsTheSame =
     (set : Settings) (bytes : List ℕ) (front : Front) (lines : List (List ℕ)) (changes : List Change)
     → held_by set bytes ≡ Some front → ContinueWith set front.changes lines changes
-    → IsMended set ((bytes ++ mending (is_unclosed bytes) front.torn) ++ flat_map ended lines) (front.changes ++ changes)
+    → IsMended set ((bytes ++ mending (is_unclosed bytes) front.torn) ++ flat_map ended lines) (front.own ++ lines) (front.changes ++ changes)

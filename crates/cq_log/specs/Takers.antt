@@ -32,11 +32,11 @@ module _ {T : Type 0} (Has : Having T) where
   abbrev pub TakesOne : T → T → List ℕ → Change → Bool → Type 0
   TakesOne old new line change result = (set : Settings) (lines : List (List ℕ)) (changes : List Change) → Has old set lines changes → TakesAfter new set lines changes line change result
 
-  -- what it has taken is what these lines hold
+  -- what it has taken is what these lines hold, each change by its line
   pub record HasHeld (set : Settings) (lines : List (List ℕ)) (torn : Bool) (t : T) : Type 0 where
     pub own : List (List ℕ)
     pub changes : List Change
-    pub held : held_in set lines ≡ Some (front_of changes torn)
+    pub held : held_in set lines ≡ Some (front_of own changes torn)
     pub has : Has t set own changes
 
   -- after a line: what the lines before it hold goes on in what is said of it

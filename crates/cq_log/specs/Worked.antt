@@ -21,12 +21,12 @@ pub record EndsAsWorkedOut : Type 0 where
 
 -- a line that is cut off, mended or not, alone and before a whole one
 pub record HoldsAsWorkedOut (set : Settings) (L P : List ℕ) (change : Change) : Type 0 where
-  pub nothing : held_in set [] ≡ Some (front_of [] false)
-  pub whole : held_in set (L ∷ []) ≡ Some (front_of (change ∷ []) false)
-  pub torn : held_in set (P ∷ []) ≡ Some (front_of [] true)
-  pub torn_after_whole : held_in set (L ∷ P ∷ []) ≡ Some (front_of (change ∷ []) true)
-  pub mended : held_in set (P ∷ [] ∷ L ∷ []) ≡ Some (front_of (change ∷ []) false)
-  pub mended_again : held_in set (P ∷ [] ∷ P ∷ [] ∷ []) ≡ Some (front_of [] false)
+  pub nothing : held_in set [] ≡ Some (front_of [] [] false)
+  pub whole : held_in set (L ∷ []) ≡ Some (front_of (L ∷ []) (change ∷ []) false)
+  pub torn : held_in set (P ∷ []) ≡ Some (front_of [] [] true)
+  pub torn_after_whole : held_in set (L ∷ P ∷ []) ≡ Some (front_of (L ∷ []) (change ∷ []) true)
+  pub mended : held_in set (P ∷ [] ∷ L ∷ []) ≡ Some (front_of (L ∷ []) (change ∷ []) false)
+  pub mended_again : held_in set (P ∷ [] ∷ P ∷ [] ∷ []) ≡ Some (front_of [] [] false)
   pub not_mended : held_in set (P ∷ L ∷ []) ≡ None
   pub torn_twice : held_in set (P ∷ P ∷ []) ≡ None
 
