@@ -1,0 +1,4 @@
+pub mod Needed
+pub mod Keeping
+pub mod Shortened
+pub mod Worked
