@@ -5,7 +5,7 @@ use cq_shard::Indexed;
 pub struct Unworked;
 
 impl Indexed for Unworked {
-    ghost use Rattle.std.specs.Prelude.{[]};
+    ghost use Rattle.std.specs.Prelude.{[], refl};
     ghost use Rattle.cq_shorten.specs.Keeping.{NeverMade};
 
     ghost keys_in = { λ _. [] };
@@ -15,4 +15,8 @@ impl Indexed for Unworked {
     fn keys(&self) -> &[u64] {
         &[]
     }
+
+    ghost determined = { λ settings lang text work other is also. refl };
+
+    ghost few = { λ settings lang text work never. absurd never };
 }
