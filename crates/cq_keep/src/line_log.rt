@@ -1,4 +1,4 @@
-ghost use Rattle.std.specs.Prelude.{◌≡◌, true, false, OnOk, OnErr, IsErr};
+ghost use Rattle.std.specs.Prelude.{◌≡◌, true, OnOk, OnErr};
 ghost use Rattle.cq_io.specs.Causes.{HasCause};
 ghost use Rattle.cq_io.specs.Sending.{Sends};
 ghost use Rattle.cq_lines.specs.Pieces.{ended};
@@ -36,7 +36,6 @@ impl<K: Sink + Drop> LineLog<K> {
     pub fn keep(&mut self, line: &[u8]) -> Result<(), Failed>
         ensures kept { OnOk result (KeepsLine K.Sink self.old self.new line.now) }
         ensures broken { OnErr result (BreaksOff K.Sink self.old self.new line.now) }
-        ensures stays { self.old.whole ≡ false → IsErr result }
     {
         if !self.whole {
             return Err(Failed);
