@@ -1,4 +1,2 @@
-pub mod Needed
 pub mod Keeping
 pub mod Shortened
-pub mod Worked

@@ -10,8 +10,6 @@ mod nothing;
 mod shortening;
 
 pub use keeping::Shortener;
-pub use laws::{
-    a_short_log_has_the_same_files_and_gates, a_short_log_is_a_log, it_is_shortened_as_worked_out,
-};
+pub use laws::a_short_log_is_a_log;
 pub use nothing::Unworked;
 pub use shortening::{Shortened, shorten};

@@ -25,5 +25,5 @@ pub record LeavesTheSame (changes : List Change) (project : List ℕ) : Type 0 w
   pub files : map unnumbered (files_of project (needed_changes changes)) ≡ map unnumbered (files_of project changes)
   pub conditions : conditions_of project (needed_changes changes) ≡ conditions_of project changes
 
-abbrev pub AShortLogHasTheSameFilesAndGates : Type 0
-AShortLogHasTheSameFilesAndGates = (changes : List Change) (project : List ℕ) → LeavesTheSame changes project
+abbrev pub WhatIsNeededLeavesTheSame : Type 0
+WhatIsNeededLeavesTheSame = (changes : List Change) (project : List ℕ) → LeavesTheSame changes project
