@@ -8,7 +8,7 @@ use cq_io::{Failed, Sink, send};
 
 /// A sink of lines, and whether each line that was handed to it is written whole.
 #[derive(Drop)]
-pub struct LineLog<K: Sink + Drop> {
+pub struct LineLog<K: Drop> {
     pub sink: K,
     pub whole: bool,
 }

@@ -3,6 +3,7 @@ use Rattle.std.proofs.Common.{◌≡◌, ℕ, ◌+◌, ◌<◌, ◌≤◌, Bool,
 use Rattle.std.proofs.KnownBytes.{Consumes-trans}
 use Rattle.std.proofs.lemmas.Bool.{lt-ltb}
 use Rattle.std.specs.Io.KnownBytes.{Consumes, IsAtEnd}
+use Rattle.cq_base.specs.declared.change.Change.{Change}
 use Rattle.cq_base.specs.declared.settings.Settings.{Settings}
 use Rattle.cq_lines.proofs.Whole.{append_nil, cut_none, cut_line, cut_whole, run_ends, split_rest}
 use Rattle.cq_lines.specs.Cutting.{IsNext, Cuts}
@@ -12,7 +13,7 @@ use Rattle.cq_lines.specs.Runs.{CutTo, IsFresh}
 use Rattle.cq_lines.specs.declared.lines.Cut.TheVariants as cut
 use Rattle.cq_log.specs.Logs.{held_in}
 use Rattle.cq_log.specs.Mending.{is_unclosed}
-use Rattle.cq_log.specs.Takers.{Having, HasHeld, TakesLine, TakesRefused, TakenSoFar, Takes}
+use Rattle.cq_log.specs.Takers.{HasHeld, TakesLine, TakesRefused, TakenSoFar, Takes}
 use Rattle.cq_log.specs.declared.taking.Taken.TheVariants as taken
 use Rattle.cq_log.proofs.Saying.{long_refused}
 
@@ -66,7 +67,7 @@ ends_here limit a b d x y lines so cuts =
           }
     ]
 
-module _ {T : Type 0} (Has : Having T) (set : Settings) where
+module _ {T : Type 0} (Has : T → Settings → List (List ℕ) → List Change → Type 0) (set : Settings) where
   -- nothing was cut
   pub none_taken : (rest : Option (List ℕ)) (held : Held) (t : T) → IsFresh held → held.limit ≡ set.byte_limit → Has t set [] [] → TakenSoFar Has set rest rest held false t
   none_taken rest held t fresh limit has = record {

@@ -5,7 +5,7 @@ use Rattle.cq_base.specs.declared.change.Change.{Change}
 use Rattle.cq_base.specs.declared.settings.Settings.{Settings}
 use Rattle.cq_lines.specs.Pieces.{line_limit}
 use Rattle.cq_log.specs.Logs.{Front, front_of, is_accepted, is_torn, after_whole, after_torn, onto, held_in}
-use Rattle.cq_log.specs.Takers.{Having, HasHeld, TakesOne, TakesLine, IsOther, IsOtherRefusal}
+use Rattle.cq_log.specs.Takers.{HasHeld, TakesOne, TakesLine, IsOther, IsOtherRefusal, mended_by}
 use Rattle.cq_log.proofs.Growing.{held_push}
 use Rattle.cq_request.specs.Reading.{line_says}
 use Rattle.cq_request.specs.declared.request.Refusal.{Refusal}
@@ -46,7 +46,7 @@ was_read chunk line says short is = ap (λ (b : Bool). if b then TooLong else Re
 was_long : (chunk : ℕ) (line : List ℕ) → line_limit < length line → said chunk line ≡ TooLong
 was_long chunk line long = ap (λ (b : Bool). if b then TooLong else Read (line_says chunk line)) (lt-ltb _ _ long)
 
-module _ {T : Type 0} (Has : Having T) (set : Settings) where
+module _ {T : Type 0} (Has : T → Settings → List (List ℕ) → List Change → Type 0) (set : Settings) where
   -- one line more, after lines of which it is known what they hold
   next_held : (lines : List (List ℕ)) (line : List ℕ) (front : Front) → held_in set lines ≡ Some front → held_in set (lines ++ line ∷ []) ≡ onto set (Some front) line
   next_held lines line front is = held_push set lines line ∙ ap (λ (o : Option Front). onto set o line) is
@@ -107,6 +107,11 @@ module _ {T : Type 0} (Has : Having T) (set : Settings) where
 
   pub does_not_mend : (line : List ℕ) (old new : T) → 0 < length line → TakesLine Has set true line old new None
   does_not_mend line old new some lines has = next_held lines line (front_of has.own has.changes true) has.held ∙ some_torn (front_of has.own has.changes true) line some
+
+  -- whatever the line is
+  pub mended_or_not : (line : List ℕ) (t : T) → TakesLine Has set true line t t (mended_by line)
+  mended_or_not [] t = mends t
+  mended_or_not (b ∷ line) t = does_not_mend (b ∷ line) t t (omega arith)
 
   -- a line that is too long
   pub long_refused : (torn : Bool) (line : List ℕ) (t : T) (lines : List (List ℕ)) → line_limit < length line → HasHeld Has set lines torn t → held_in set (lines ++ line ∷ []) ≡ None

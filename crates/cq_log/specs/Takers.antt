@@ -19,11 +19,8 @@ use Rattle.cq_request.specs.declared.request.Refusal.TheVariants as refusal
 use Rattle.cq_request.specs.declared.request.Request.{Request}
 use Rattle.cq_request.specs.declared.request.Request.TheVariants as request
 
--- under these settings it has taken just these changes, each by the line beside it, in this order
-abbrev pub Having : Type 0 → Type 1
-Having T = T → Settings → List (List ℕ) → List Change → Type 0
-
-module _ {T : Type 0} (Has : Having T) where
+-- `Has`: under these settings it has taken just these changes, each by the line beside it, in this order
+module _ {T : Type 0} (Has : T → Settings → List (List ℕ) → List Change → Type 0) where
   -- after whatever it had taken, it has taken the change too, which is accepted; or the change is not accepted
   abbrev pub TakesAfter : T → Settings → List (List ℕ) → List Change → List ℕ → Change → Bool → Type 0
   TakesAfter new set lines changes line change true = (is_accepted set changes change ≡ true) × Has new set (lines ++ line ∷ []) (changes ++ change ∷ [])
@@ -98,6 +95,11 @@ HasCauseOfTaking faults faults_now taken.Failed = Rose faults faults_now
 HasCauseOfTaking faults faults_now taken.Refused = faults_now ≡ faults
 
 -- ---- for private clauses
+
+-- after a line that was cut off, whether this one mends it
+abbrev pub mended_by : List ℕ → Option Bool
+mended_by [] = Some false
+mended_by (b ∷ line) = None
 
 -- a refusal that is no change, and not for want of memory
 abbrev pub IsOtherRefusal : Refusal → Type 0

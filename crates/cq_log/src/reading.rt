@@ -47,8 +47,12 @@ fn refused_line(why: Refusal) -> Result<LogLine, Memory>
 {
     let torn = was_cut_off(&why);
     match refused_as(why) {
-        Ok(_told) if torn => Ok(LogLine::Torn),
-        Ok(_told) => Ok(LogLine::Other),
+        Ok(_told) => {
+            if torn {
+                return Ok(LogLine::Torn);
+            }
+            Ok(LogLine::Other)
+        }
         Err(Memory) => Err(Memory),
     }
 }

@@ -1,7 +1,7 @@
 ghost use Rattle.std.specs.Prelude.{◌≡◌, ◌≤◌, [], length, IfOk};
 ghost use Rattle.cq_lines.specs.Pieces.{line_limit};
 ghost use Rattle.cq_lines.specs.Runs.{IsFresh};
-ghost use Rattle.cq_log.specs.Takers.{HasCauseOfTaking, Takes, TakesLine};
+ghost use Rattle.cq_log.specs.Takers.{HasCauseOfTaking, Takes, TakesLine, mended_by};
 
 use crate::reading::{LogLine, log_line};
 use crate::taker::Taker;
@@ -49,11 +49,14 @@ fn take_whole<T: Taker>(
     }
 }
 
-// A line after one that was cut off: only an empty line may come there.
-fn take_after_torn<T: Taker>(settings: &Settings, taker: &mut T, line: &[u8]) -> Option<bool>
-    ensures takes { TakesLine T.Has settings.now true line.now taker.old taker.new result }
+// A line after one that was cut off, which only an empty line mends.
+fn mends(line: &[u8]) -> Option<bool>
+    ensures { result ≡ mended_by line.now }
 {
-    if line.is_empty() { Some(false) } else { None }
+    if line.is_empty() {
+        return Some(false);
+    }
+    None
 }
 
 // One line more, and whether it was cut off; none if it is refused.
@@ -68,7 +71,7 @@ fn take_line<T: Taker>(
     ensures takes { IfOk result (TakesLine T.Has settings.now torn line.now taker.old taker.new) }
 {
     if torn {
-        return Ok(take_after_torn(settings, taker, line));
+        return Ok(mends(line));
     }
     take_whole(alloc, settings, taker, line)
 }

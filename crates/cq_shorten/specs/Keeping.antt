@@ -2,6 +2,7 @@
 use Rattle.std.specs.Prelude.{◌≡◌, ℕ, ◌-◌, List, [], length, map, flat_map, slice_index_or, Option, Some, Vec, Result}
 use Rattle.std.specs.BTreeMap.{BTreeMap, get}
 use Rattle.std.specs.Ordering.{nat_cmp}
+use Rattle.std.specs.declared.alloc.Global.{Global}
 use Rattle.cq_base.specs.declared.change.Change.{Change}
 use Rattle.cq_base.specs.declared.lang.Lang.{Lang}
 use Rattle.cq_base.specs.declared.settings.Settings.{Settings}
@@ -20,7 +21,7 @@ NeverMade set lang text work = ⊥
 
 -- the line of this number is held
 abbrev pub HasLine : Shortener → ℕ → List ℕ → Type 0
-HasLine s number line = (held : Vec ℕ) × (get nat_cmp s.lines number ≡ Some held) × (held.items ≡ line)
+HasLine s number line = (held : Vec ℕ Global) × (get nat_cmp s.lines number ≡ Some held) × (held.items ≡ line)
 
 -- all changes were accepted with the floor at the last one, and of each that is kept the line is held
 pub record Has (s : Shortener) (set : Settings) (own : List (List ℕ)) (changes : List Change) : Type 0 where
