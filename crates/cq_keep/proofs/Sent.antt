@@ -1,7 +1,8 @@
 -- A line is sent, and then its line feed.
-use Rattle.std.proofs.Common.{◌≡◌, ℕ, List, [], ◌∷◌, ◌++◌, Option, ap, sym, ◌∙◌, append_assoc}
+use Rattle.std.proofs.Common.{◌≡◌, ℕ, List, [], ◌∷◌, ◌++◌, Option, Ok, Err, Result, ap, sym, ◌∙◌, append_assoc}
 use Rattle.std.proofs.KnownBytes.{Appends-trans}
 use Rattle.std.specs.Io.KnownBytes.{Appends}
+use Rattle.cq_io.specs.Sending.{Sends}
 use Rattle.cq_lines.specs.Pieces.{ended}
 
 -- a front of these bytes was written
@@ -19,3 +20,8 @@ line_broken a b line (front, more, parts, sent) = (front, more ++ 10 ∷ [], sym
 -- and so is the line with a front of its line feed
 pub feed_broken : (a b c : Option (List ℕ)) (line : List ℕ) → Appends a b line → Front b c (10 ∷ []) → Front a c (ended line)
 feed_broken a b c line one (front, more, parts, sent) = (line ++ front, more, append_assoc line front more ∙ ap (λ (bytes : List ℕ). line ++ bytes) parts, Appends-trans a b c line front one sent)
+
+-- the line was written, and then its line feed or none of it
+pub then_feed : {E : Type 0} (a b c : Option (List ℕ)) (line : List ℕ) (result : Result (Unit {0}) E) → Appends a b line → Sends b c (10 ∷ []) result → Sends a c (ended line) result
+then_feed a b c line (Ok u) one two = both_sent a b c line one two
+then_feed a b c line (Err e) one two = feed_broken a b c line one two

@@ -1,4 +1,4 @@
-ghost use Rattle.std.specs.Prelude.{◌≡◌, ◌≤◌, [], length, IfOk};
+ghost use Rattle.std.specs.Prelude.{◌≡◌, ◌≤◌, false, [], length, IfOk};
 ghost use Rattle.cq_lines.specs.Pieces.{line_limit};
 ghost use Rattle.cq_lines.specs.Runs.{IsFresh};
 ghost use Rattle.cq_log.specs.Takers.{HasCauseOfTaking, Takes, TakesLine, mended_by};

@@ -8,7 +8,7 @@ returns c = λ set a b L P change says cut_off accepted. record {
   torn = rw cut_off refl;
   torn_after_whole = rw (says, accepted, cut_off) refl;
   mended = rw (cut_off, says, accepted) refl;
-  mended_again = rw cut_off refl;
+  mended_again = rw cut_off (rw cut_off refl);
   not_mended = rw cut_off refl;
   torn_twice = rw cut_off refl;
 }

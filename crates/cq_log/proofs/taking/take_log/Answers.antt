@@ -48,5 +48,5 @@ lines-preserved g c =
           one_taken g.T.Taker.Has c.args.settings.now _ _ _ _ _ _ _ cuts.got c.in-Line.line.now c.lines.invariant.goes cuts.bytes cuts.taken cuts.within cuts.limit (λ e. (cuts.stays e).0) cuts.finds.1 c.take_line.new.taker c.in-Ok-Some.now
           (rw c.in-Ok-Some.field-0-is at c.in-Ok-Some.ensures.takes);
       faults = c.in-Line.ensures.cause ∙ c.lines.invariant.faults;
-      unclosed = c.is_over.ensures;
+      unclosed = c.is_over-unclosed.ensures;
     }
