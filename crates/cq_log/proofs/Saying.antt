@@ -1,5 +1,5 @@
 -- What a line adds to what the lines before it hold, by what it says.
-use Rattle.std.proofs.Common.{◌≡◌, ℕ, ◌<◌, ◌≤◌, Bool, true, false, if◌then◌else◌, List, [], ◌∷◌, ◌++◌, length, Option, Some, None, Ok, Err, Result, refl, sym, ap, ◌∙◌, arith}
+use Rattle.std.proofs.Common.{◌≡◌, ℕ, ◌<◌, ◌≤◌, Bool, true, false, if◌then◌else◌, List, [], ◌∷◌, ◌++◌, length, Option, Some, None, Ok, Err, Result, refl, sym, ap, ◌∙◌, subst, arith}
 use Rattle.std.proofs.lemmas.Bool.{lt-ltb, le-ltb}
 use Rattle.cq_base.specs.declared.change.Change.{Change}
 use Rattle.cq_base.specs.declared.settings.Settings.{Settings}
@@ -112,6 +112,9 @@ module _ {T : Type 0} (Has : T → Settings → List (List ℕ) → List Change 
   pub mended_or_not : (line : List ℕ) (t : T) → TakesLine Has set true line t t (mended_by line)
   mended_or_not [] t = mends t
   mended_or_not (b ∷ line) t = does_not_mend (b ∷ line) t t (omega arith)
+
+  pub mended_if : (line : List ℕ) (t : T) (torn : Bool) (now : Option Bool) → torn ≡ true → now ≡ mended_by line → TakesLine Has set torn line t t now
+  mended_if line t torn now is same = subst (λ (o : Option Bool). TakesLine Has set torn line t t o) (sym same) (subst (λ (b : Bool). TakesLine Has set b line t t (mended_by line)) (sym is) (mended_or_not line t))
 
   -- a line that is too long
   pub long_refused : (torn : Bool) (line : List ℕ) (t : T) (lines : List (List ℕ)) → line_limit < length line → HasHeld Has set lines torn t → held_in set (lines ++ line ∷ []) ≡ None
