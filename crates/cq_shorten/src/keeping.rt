@@ -1,4 +1,4 @@
-ghost use Rattle.std.specs.Prelude.{◌≡◌, [], IfOk};
+ghost use Rattle.std.specs.Prelude.{◌≡◌, ◌≤◌, [], length, IfOk};
 ghost use Rattle.cq_io.specs.Causes.{HasCause};
 ghost use Rattle.cq_shorten.specs.Keeping.{Has, KeepsNeeded, SendsNeeded};
 
@@ -21,6 +21,8 @@ pub struct Shortener {
     pub lines: BTreeMap<u64, Vec<u8>>,
     // How many there may be before those that are gone are looked for.
     pub most: usize,
+    // No floor is above the last change.
+    ghost low: { changes.floor ≤ length changes.slots },
 }
 
 // The bytes of a line.
