@@ -1,0 +1,5 @@
+mod Growing
+mod Saying
+mod Running
+mod Feeds
+mod Mended

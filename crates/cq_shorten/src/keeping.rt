@@ -1,0 +1,104 @@
+ghost use Rattle.std.specs.Prelude.{◌≡◌, ◌≤◌, [], length, IfOk};
+ghost use Rattle.cq_io.specs.Causes.{HasCause};
+ghost use Rattle.cq_shorten.specs.Keeping.{Has, KeepsNeeded, SendsNeeded};
+
+use crate::nothing::Unworked;
+use cq_base::{Change, Memory, Settings};
+use cq_io::{Failed, Sink, send};
+use cq_kept::{Changes, stored};
+use cq_log::Taker;
+use std::alloc::Global;
+use std::collections::BTreeMap;
+
+// Lines are looked through once there are more than twice as many as were needed then, and this many.
+const FEW: usize = 1_024;
+
+/// The changes of a log that its last version needs, and the line of each.
+#[derive(Drop)]
+pub struct Shortener {
+    pub changes: Changes<Unworked>,
+    // By the numbers of the changes. There may be lines of changes that are gone.
+    pub lines: BTreeMap<u64, Vec<u8>>,
+    // How many there may be before those that are gone are looked for.
+    pub most: usize,
+    // No floor is above the last change.
+    ghost low: { changes.floor ≤ length changes.slots },
+}
+
+// The bytes of a line.
+fn copied(alloc: Global, line: &[u8]) -> Result<Vec<u8>, Memory>
+    ensures { IfOk result (λ copy. copy.items ≡ line.now) }
+{
+    let mut copy = Vec::with_capacity(alloc, line.len())?;
+    copy.extend_from_slice(line)?;
+    Ok(copy)
+}
+
+impl Shortener {
+    /// It has taken no changes.
+    pub fn new(alloc: Global, settings: &Settings) -> Shortener
+        ensures { Has result settings.now [] [] }
+    {
+        Shortener {
+            changes: Changes::new(alloc, settings),
+            lines: BTreeMap::new(alloc),
+            most: FEW,
+        }
+    }
+
+    // Lets go of the lines of changes that are gone, now and then: each line is looked at twice at most for each that came.
+    fn ease(&mut self)
+        ensures same { self.new.changes ≡ self.old.changes }
+        ensures lines { KeepsNeeded self.old self.new }
+    {
+        if self.lines.len() <= self.most {
+            return;
+        }
+        let changes = &self.changes;
+        self.lines
+            .retain(|number, _line| changes.get(*number).is_some());
+        self.most = self.lines.len().saturating_mul(2).max(FEW);
+    }
+
+    /// Writes the lines of the changes that the last version needs, in order, each with its line feed.
+    pub fn write<K: Sink>(&self, sink: &mut K) -> Result<(), Failed>
+        ensures bytes { SendsNeeded self.now (K.written sink.old) (K.written sink.new) result }
+        ensures cause { HasCause (K.faults sink.old) (K.faults sink.new) result }
+    {
+        let mut after = 0;
+        'kept: while let Some((number, _kept)) = self.changes.next(after) {
+            match self.lines.get(&number) {
+                Some(line) => {
+                    send(sink, line.as_slice())?;
+                    send(sink, b"\n".as_slice())?;
+                }
+                None => {}
+            }
+            after = number;
+        }
+        Ok(())
+    }
+}
+
+impl Taker for Shortener {
+    ghost use Rattle.cq_shorten.specs.Keeping.{Has};
+
+    ghost Has = { Has };
+
+    fn take(&mut self, alloc: Global, change: Change, line: &[u8]) -> Result<bool, Memory> {
+        let change = stored(alloc, change)?;
+        if self.changes.is_absent(&change)
+            || self.changes.is_full()
+            || self.changes.is_long(&change)
+        {
+            return Ok(false);
+        }
+        let line = copied(alloc, line)?;
+        let number = self.changes.len() + 1;
+        self.lines.insert(number, line)?;
+        self.changes.accept(change)?;
+        self.changes.set_floor(number);
+        self.ease();
+        Ok(true)
+    }
+}
