@@ -5,4 +5,4 @@
 
 mod line_log;
 
-pub use line_log::LineLog;
+pub use line_log::{LineLog, send_line};

@@ -13,8 +13,8 @@ pub struct LineLog<K: Drop> {
     pub whole: bool,
 }
 
-// A line with its line feed.
-fn send_line<K: Sink>(sink: &mut K, line: &[u8]) -> Result<(), Failed>
+/// Writes a line with its line feed.
+pub fn send_line<K: Sink>(sink: &mut K, line: &[u8]) -> Result<(), Failed>
     ensures bytes { Sends (K.written sink.old) (K.written sink.new) (ended line.now) result }
     ensures cause { HasCause (K.faults sink.old) (K.faults sink.new) result }
 {

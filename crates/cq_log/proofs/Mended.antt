@@ -9,7 +9,7 @@ use Rattle.cq_log.specs.Laws.{HoldsJust, IsMended, ContinueWith}
 use Rattle.cq_log.specs.Logs.{Front, front_of, is_accepted, after_whole, onto, held_in, held_by}
 use Rattle.cq_log.specs.Mending.{is_unclosed, mending}
 use Rattle.cq_request.specs.declared.request.Request.TheVariants as request
-use Rattle.cq_talk.specs.Said.{Said, Read, said}
+use Rattle.cq_talk.specs.Said.{Read, said}
 
 module _ (set : Settings) where
   -- an empty line after a line that was cut off

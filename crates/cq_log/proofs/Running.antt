@@ -8,7 +8,7 @@ use Rattle.cq_base.specs.declared.settings.Settings.{Settings}
 use Rattle.cq_lines.proofs.Whole.{append_nil, cut_none, cut_line, cut_whole, run_ends, split_rest}
 use Rattle.cq_lines.specs.Cutting.{IsNext, Cuts}
 use Rattle.cq_lines.specs.Held.{Held}
-use Rattle.cq_lines.specs.Pieces.{ended, split, all_lines, closed_lines, line_limit}
+use Rattle.cq_lines.specs.Pieces.{ended, split, all_lines, line_limit}
 use Rattle.cq_lines.specs.Runs.{CutTo, IsFresh}
 use Rattle.cq_lines.specs.declared.lines.Cut.TheVariants as cut
 use Rattle.cq_log.specs.Logs.{held_in}

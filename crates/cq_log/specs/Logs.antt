@@ -1,6 +1,6 @@
 -- What a log holds: the changes that its lines say, each accepted after those before it. A line that is no JSON object was cut
 -- off, and says nothing; an empty line after it mends it.
-use Rattle.std.specs.Prelude.{ℕ, Bool, true, false, if◌then◌else◌, List, [], ◌∷◌, ◌++◌, length, fold, Option, Some, None, is_none, Result, Ok, Err}
+use Rattle.std.specs.Prelude.{ℕ, Bool, true, false, if◌then◌else◌, List, [], ◌∷◌, ◌++◌, length, fold, Option, Some, None, is_none, Ok, Err}
 use Rattle.cq_base.specs.declared.change.Change.{Change}
 use Rattle.cq_base.specs.declared.settings.Settings.{Settings}
 use Rattle.cq_lines.specs.Pieces.{all_lines}

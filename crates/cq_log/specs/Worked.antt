@@ -1,5 +1,5 @@
 -- Logs that were worked out by hand. `L` is a line that says a change which is accepted at first, `P` one that is no JSON object.
-use Rattle.std.specs.Prelude.{◌≡◌, ℕ, true, false, List, [], ◌∷◌, ◌++◌, Some, None, Ok, Err, codes}
+use Rattle.std.specs.Prelude.{◌≡◌, ℕ, true, false, List, [], ◌∷◌, Some, None, Ok, Err, codes}
 use Rattle.cq_base.specs.declared.change.Change.{Change}
 use Rattle.cq_base.specs.declared.settings.Settings.{Settings}
 use Rattle.cq_log.specs.Logs.{front_of, held_in, is_accepted}

@@ -1,1 +1,5 @@
 mod Deciding
+mod Taking
+mod Easing
+mod Writing
+mod Shorter

@@ -1,12 +1,12 @@
 -- What is written of a log that is shortened, by how that ended.
-use Rattle.std.specs.Prelude.{◌≡◌, ℕ, Bool, false, List, [], ◌++◌, length, flat_map, Some, None}
+use Rattle.std.specs.Prelude.{◌≡◌, ℕ, Bool, false, List, ◌++◌, length, flat_map, Some, None}
 use Rattle.std.specs.Io.KnownBytes.{Appends, Consumes, IsAtEnd}
 use Rattle.cq_base.specs.declared.change.Change.{Change}
 use Rattle.cq_base.specs.declared.settings.Settings.{Settings}
 use Rattle.cq_io.specs.Causes.{Rose}
 use Rattle.cq_io.specs.declared.sink.Sink as sink
 use Rattle.cq_io.specs.declared.source.Source as source
-use Rattle.cq_lines.specs.Pieces.{ended, all_lines}
+use Rattle.cq_lines.specs.Pieces.{ended}
 use Rattle.cq_lines.specs.Runs.{AreWhole}
 use Rattle.cq_lines.specs.declared.ending.End.TheVariants as end
 use Rattle.cq_log.specs.Logs.{front_of, held_in, held_by}

@@ -1,10 +1,12 @@
-ghost use Rattle.std.specs.Prelude.{◌≡◌, ◌≤◌, [], length, IfOk};
+ghost use Rattle.std.specs.Prelude.{◌≡◌, ◌↔◌, ◌≤◌, true, [], length, IfOk};
 ghost use Rattle.cq_io.specs.Causes.{HasCause};
-ghost use Rattle.cq_shorten.specs.Keeping.{Has, KeepsNeeded, SendsNeeded};
+ghost use Rattle.cq_kept.specs.Accepted.{Holds};
+ghost use Rattle.cq_shorten.specs.Keeping.{Has, KeepsNeeded, SendsHeld, SendsNeeded};
 
 use crate::nothing::Unworked;
 use cq_base::{Change, Memory, Settings};
-use cq_io::{Failed, Sink, send};
+use cq_io::{Failed, Sink};
+use cq_keep::send_line;
 use cq_kept::{Changes, stored};
 use cq_log::Taker;
 use std::alloc::Global;
@@ -34,6 +36,13 @@ fn copied(alloc: Global, line: &[u8]) -> Result<Vec<u8>, Memory>
     Ok(copy)
 }
 
+// Whether the change of a number is held.
+fn is_held(changes: &Changes<Unworked>, number: u64) -> bool
+    ensures { (result ≡ true) ↔ Holds changes.now number }
+{
+    changes.get(number).is_some()
+}
+
 impl Shortener {
     /// It has taken no changes.
     pub fn new(alloc: Global, settings: &Settings) -> Shortener
@@ -55,9 +64,19 @@ impl Shortener {
             return;
         }
         let changes = &self.changes;
-        self.lines
-            .retain(|number, _line| changes.get(*number).is_some());
+        self.lines.retain(|number, _line| is_held(changes, *number));
         self.most = self.lines.len().saturating_mul(2).max(FEW);
+    }
+
+    // Writes the line of a change that is held, with its line feed.
+    fn send_held<K: Sink>(&self, number: u64, sink: &mut K) -> Result<(), Failed>
+        ensures bytes { SendsHeld self.now number (K.written sink.old) (K.written sink.new) result }
+        ensures cause { HasCause (K.faults sink.old) (K.faults sink.new) result }
+    {
+        match self.lines.get(&number) {
+            Some(line) => send_line(sink, line.as_slice()),
+            None => Ok(()),
+        }
     }
 
     /// Writes the lines of the changes that the last version needs, in order, each with its line feed.
@@ -67,13 +86,7 @@ impl Shortener {
     {
         let mut after = 0;
         'kept: while let Some((number, _kept)) = self.changes.next(after) {
-            match self.lines.get(&number) {
-                Some(line) => {
-                    send(sink, line.as_slice())?;
-                    send(sink, b"\n".as_slice())?;
-                }
-                None => {}
-            }
+            self.send_held(number, sink)?;
             after = number;
         }
         Ok(())
