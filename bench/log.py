@@ -5,8 +5,9 @@ usage: bench/log.py [SEED [ROUNDS]]
 
 Servers take the log, mend it and append lines, each until a byte at random. After every byte written, a reader of the whole log
 must find the changes that were told, under their numbers, and a follower that read the log byte by byte must agree with it.
-With --cancel the rule is the other one (a last line without its line feed is no change, and an empty line cancels the line before it):
-the first log is printed in which a change gets another number.
+With --cancel the rule is another one (a last line without its line feed is no change, and an empty line cancels the line before it):
+the first log is printed in which a change gets another number. With --spoil it is the one that could be kept instead (a last line
+without its line feed is no change; the server first writes a byte that no JSON object ends with, and then a line feed).
 """
 import json, random, sys
 
@@ -60,6 +61,20 @@ def mending_cancelling(log):
     return b"\n\n" if pieces(log)[1] else b""
 
 
+def held_spoiling(log):
+    changes = []
+    for line in pieces(log)[0]:
+        if not line.endswith(b"!"):
+            if change(line) is None:
+                return None
+            changes.append(change(line))
+    return changes, False
+
+
+def mending_spoiling(log):
+    return b"!\n" if pieces(log)[1] else b""
+
+
 def served(rng, log, held, mending, told, seen, checked):
     """One server, which dies after a byte at random; the log as it leaves it."""
     changes, _torn = held(log)
@@ -85,11 +100,14 @@ def served(rng, log, held, mending, told, seen, checked):
 
 
 def main(words):
-    cancel = "--cancel" in words
-    numbers = [int(w) for w in words if w != "--cancel"]
+    numbers = [int(w) for w in words if not w.startswith("--")]
     rng = random.Random(numbers[0] if numbers else 1)
     rounds = numbers[1] if len(numbers) > 1 else 2000
-    holds, mends = (held_cancelling, mending_cancelling) if cancel else (held, mending)
+    holds, mends = held, mending
+    if "--cancel" in words:
+        holds, mends = held_cancelling, mending_cancelling
+    if "--spoil" in words:
+        holds, mends = held_spoiling, mending_spoiling
 
     def checked(log, told, seen):
         found = holds(log)
