@@ -1,22 +1,22 @@
 -- The lines that are needed, up to one number after the other.
-use Rattle.std.proofs.Common.{◌≡◌, ℕ, ◌-◌, ◌<◌, ◌≤◌, Bool, cond, nat_le, List, [], ◌∷◌, ◌++◌, length, map, flat_map, filter, get_or, Option, Ok, refl, sym, ap, ap₂, ◌∙◌, subst, ⊎_elim, append_assoc, append-nil, arith}
+use Rattle.std.proofs.Common.{◌≡◌, ℕ, ◌-◌, ◌<◌, ◌≤◌, Bool, cond, nat_le, List, [], ◌∷◌, ◌++◌, length, map, flat_map, filter, get_or, Option, refl, sym, ap, ap₂, ◌∙◌, subst, ⊎_elim, append_assoc, append-nil, arith}
 use Rattle.std.specs.Prelude.{AllPairs, Contains}
 use Rattle.std.specs.Io.KnownBytes.{Appends}
 use Rattle.std.proofs.KnownBytes.{Appends-nil, Appends-trans}
 use Rattle.std.proofs.lemmas.Bool.{cases_lt, le-leb, lt-leb}
 use Rattle.std.proofs.lemmas.Grind.{flat_map-append}
-use Rattle.std.proofs.lemmas.List.{map-append}
+use Rattle.std.proofs.lemmas.List.{length-map, map-append}
 use Rattle.std.proofs.lemmas.List.Kept.{AllPairs-from_increasing}
 use Rattle.cq_base.proofs.Lists.{Contains-here, Contains-there, Contains-cases, AllPairs-head, AllPairs-tail}
 use Rattle.cq_base.specs.declared.change.Change.{Change}
 use Rattle.cq_base.specs.declared.settings.Settings.{Settings}
 use Rattle.cq_history.proofs.Forgetting.{kept_are}
 use Rattle.cq_history.specs.Gone.{IsKept}
-use Rattle.cq_io.specs.Sending.{Sends}
+use Rattle.cq_history.specs.State.{Slot}
 use Rattle.cq_kept.specs.Accepted.{Accepted, Holds, HoldsNoneBehind, IsNextHeld}
 use Rattle.cq_lines.specs.Pieces.{ended}
 use Rattle.cq_needed.specs.Needed.{needed, needed_lines}
-use Rattle.cq_shorten.specs.Keeping.{Has, SentUpTo, needed_up_to}
+use Rattle.cq_shorten.specs.Keeping.{Has, HasLine, SentUpTo, needed_up_to}
 use Rattle.cq_shorten.specs.declared.keeping.Shortener.{Shortener}
 use Rattle.cq_talk.proofs.Causing.{changes_new}
 
@@ -128,20 +128,32 @@ none_sent s written set own changes has = subst (λ (bs : List ℕ). Appends wri
 
 module _ (s : Shortener) (after number : ℕ) (a b c : Option (List ℕ)) (next : IsNextHeld s.changes after number) (sent : SentUpTo s after a b) where
   -- the line of the next that is held
-  pub line_sent : {E : Type 0} → ((set : Settings) (own : List (List ℕ)) (changes : List Change) → Has s set own changes → Sends {E = E} b c (ended (get_or own (number - 1) [])) (Ok tt)) → SentUpTo s number a c
-  line_sent line set own changes has =
+  pub line_sent : ((line : List ℕ) → HasLine s number line → Appends b c (ended line)) → SentUpTo s number a c
+  line_sent sends set own changes has =
+      let line : List ℕ = get_or own (number - 1) [] in
       subst (λ (bs : List ℕ). Appends a c bs) (sym (one_more_needed s set own changes has after number next))
-      (Appends-trans a b c (needed_up_to changes own after) (ended (get_or own (number - 1) [])) (sent set own changes has) (line set own changes has))
+      (Appends-trans a b c (needed_up_to changes own after) (ended line) (sent set own changes has) (sends line (has.lines number (kept_held s set own changes has number next.held))))
 
   -- or a front of it
-  pub line_broken : (set : Settings) (own : List (List ℕ)) (changes : List Change) → Has s set own changes → (front more : List ℕ) → front ++ more ≡ ended (get_or own (number - 1) []) → Appends b c front
+  pub line_broken : ((line : List ℕ) → HasLine s number line → (front more : List ℕ) × (front ++ more ≡ ended line) × Appends b c front) → (set : Settings) (own : List (List ℕ)) (changes : List Change) → Has s set own changes
       → (front more : List ℕ) × (front ++ more ≡ flat_map ended (needed_lines changes own)) × Appends a c front
-  line_broken set own changes has front more parts bytes =
+  line_broken breaks set own changes has =
+      let line : List ℕ = get_or own (number - 1) [] in
+      let broken = breaks line (has.lines number (kept_held s set own changes has number next.held)) in
       let before : List ℕ = needed_up_to changes own after in
       let rest = front_needed s set own changes has number in (
-        before ++ front,
-        more ++ rest.0,
-        append_assoc before front (more ++ rest.0) ∙ ap (λ (bs : List ℕ). before ++ bs) (sym (append_assoc front more rest.0) ∙ ap (λ (bs : List ℕ). bs ++ rest.0) parts)
-            ∙ sym (append_assoc before (ended (get_or own (number - 1) [])) rest.0) ∙ ap (λ (bs : List ℕ). bs ++ rest.0) (sym (one_more_needed s set own changes has after number next)) ∙ rest.1,
-        Appends-trans a b c before front (sent set own changes has) bytes,
+        before ++ broken.0,
+        broken.1 ++ rest.0,
+        append_assoc before broken.0 (broken.1 ++ rest.0) ∙ ap (λ (bs : List ℕ). before ++ bs) (sym (append_assoc broken.0 broken.1 rest.0) ∙ ap (λ (bs : List ℕ). bs ++ rest.0) broken.2)
+            ∙ sym (append_assoc before (ended line) rest.0) ∙ ap (λ (bs : List ℕ). bs ++ rest.0) (sym (one_more_needed s set own changes has after number next)) ∙ rest.1,
+        Appends-trans a b c before broken.0 (sent set own changes has) broken.3,
       )
+
+-- all of them, once no more is held
+pub all_sent : (s : Shortener) (after : ℕ) (a b : Option (List ℕ)) → SentUpTo s after a b → HoldsNoneBehind s.changes after → (set : Settings) (own : List (List ℕ)) (changes : List Change) → Has s set own changes
+    → Appends a b (flat_map ended (needed_lines changes own))
+all_sent s after a b sent none set own changes has = subst (λ (bs : List ℕ). Appends a b bs) (all_needed s set own changes has after none) (sent set own changes has)
+
+-- a number that is held is that of a change
+pub held_within : (s : Shortener) (number : ℕ) → Holds s.changes number → number ≤ length s.changes.slots
+held_within s number holds = omega (arith, holds.0.1, length-map s.changes.slots (λ (slot : Slot). slot.change))
