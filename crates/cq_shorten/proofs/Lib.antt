@@ -3,3 +3,4 @@ mod Taking
 mod Easing
 mod Writing
 mod Shorter
+mod Ending
