@@ -86,8 +86,10 @@ impl Shortener {
     {
         let mut after = 0;
         'kept: while let Some((number, _kept)) = self.changes.next(after) {
-            self.send_held(number, sink)?;
-            after = number;
+            match self.send_held(number, sink) {
+                Ok(()) => after = number,
+                Err(Failed) => return Err(Failed),
+            }
         }
         Ok(())
     }
