@@ -57,7 +57,7 @@ module _ (set : Settings) (own : List (List ℕ)) (changes : List Change) (line 
     newest_line : (k : ℕ) → k ≡ number → get nat_cmp new.lines k ≡ get nat_cmp mid k → HasLine new k (get_or (own ++ line ∷ []) (k - 1) [])
     newest_line k is same =
         let place : k - 1 ≡ length own = omega (arith, is, many, has.paired) in
-        (held, same ∙ ap (get nat_cmp mid) is ∙ here, items ∙ sym (ap (λ (i : ℕ). get_or (own ++ line ∷ []) i []) place ∙ get_or-append_seam own line [] []))
+        (held, same ∙ ap (λ (n : ℕ). get nat_cmp mid n) is ∙ here, items ∙ sym (ap (λ (i : ℕ). get_or (own ++ line ∷ []) i []) place ∙ get_or-append_seam own line [] []))
 
     earlier_line : (k : ℕ) → k ≤ length changes → IsKept (changes ++ change ∷ []) (length (changes ++ change ∷ [])) k → get nat_cmp new.lines k ≡ get nat_cmp mid k → HasLine new k (get_or (own ++ line ∷ []) (k - 1) [])
     earlier_line k low kept same =
