@@ -1,5 +1,5 @@
-mod Growing
+pub mod Growing
 mod Saying
 mod Running
 mod Feeds
-mod Mended
+pub mod Mended

@@ -5,7 +5,7 @@ use Rattle.cq_base.specs.declared.settings.Settings.{Settings}
 use Rattle.cq_board.specs.Answers.{cause_among}
 use Rattle.cq_kept.specs.Accepted.{accepted_from}
 use Rattle.cq_shorten.specs.Keeping.{Has}
-use Rattle.cq_shorten.specs.declared.keeping.Shortener.{Shortener}
+use Rattle.cq_shorten.specs.declared.held.Shortener.{Shortener}
 
 -- nothing is against it exactly if no test passes
 pub accepted_without : (absent full long : Bool) → absent ≡ false → full ≡ false → long ≡ false → is_none (cause_among absent full long) ≡ true

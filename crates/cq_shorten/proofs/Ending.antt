@@ -12,7 +12,7 @@ use Rattle.cq_log.specs.Takers.{TakesAll, TakesMost, TakesRefused}
 use Rattle.cq_needed.specs.Needed.{needed_lines}
 use Rattle.cq_shorten.specs.Keeping.{Has}
 use Rattle.cq_shorten.specs.Shortened.{ReadsLog, Shortens}
-use Rattle.cq_shorten.specs.declared.keeping.Shortener.{Shortener}
+use Rattle.cq_shorten.specs.declared.held.Shortener.{Shortener}
 use Rattle.cq_shorten.specs.declared.shortening.Shortened.TheVariants as shortened
 
 module _ {S K : Type 0} (from : source.Ghosts S) (onto : sink.Ghosts K) (set : Settings) (read read_now : S) (t : Shortener) where

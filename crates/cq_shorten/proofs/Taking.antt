@@ -20,7 +20,7 @@ use Rattle.cq_kept.specs.Accepted.{Accepted, Holds, accepted_from, bare_state}
 use Rattle.cq_log.specs.Logs.{is_accepted}
 use Rattle.cq_shorten.proofs.Deciding.{accepted_without}
 use Rattle.cq_shorten.specs.Keeping.{Has, HasLine}
-use Rattle.cq_shorten.specs.declared.keeping.Shortener.{Shortener}
+use Rattle.cq_shorten.specs.declared.held.Shortener.{Shortener}
 use Rattle.cq_talk.proofs.Causing.{changes_new}
 
 module _ (set : Settings) (own : List (List ℕ)) (changes : List Change) (line : List ℕ) (change : Change) (old new : Shortener) (has : Has old set own changes) where

@@ -17,7 +17,7 @@ use Rattle.cq_kept.specs.Accepted.{Accepted, Holds, HoldsNoneBehind, IsNextHeld}
 use Rattle.cq_lines.specs.Pieces.{ended}
 use Rattle.cq_needed.specs.Needed.{needed, needed_lines}
 use Rattle.cq_shorten.specs.Keeping.{Has, HasLine, SentUpTo, needed_up_to}
-use Rattle.cq_shorten.specs.declared.keeping.Shortener.{Shortener}
+use Rattle.cq_shorten.specs.declared.held.Shortener.{Shortener}
 use Rattle.cq_talk.proofs.Causing.{changes_new}
 
 -- ---- rising numbers up to one of them

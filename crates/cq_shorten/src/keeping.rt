@@ -1,8 +1,9 @@
-ghost use Rattle.std.specs.Prelude.{◌≡◌, ◌↔◌, ◌≤◌, true, [], length, IfOk};
+ghost use Rattle.std.specs.Prelude.{◌≡◌, ◌↔◌, true, [], IfOk};
 ghost use Rattle.cq_io.specs.Causes.{HasCause};
 ghost use Rattle.cq_kept.specs.Accepted.{Holds};
 ghost use Rattle.cq_shorten.specs.Keeping.{Has, KeepsNeeded, SendsHeld, SendsNeeded};
 
+use crate::held::Shortener;
 use crate::nothing::Unworked;
 use cq_base::{Change, Memory, Settings};
 use cq_io::{Failed, Sink};
@@ -14,18 +15,6 @@ use std::collections::BTreeMap;
 
 // Lines are looked through once there are more than twice as many as were needed then, and this many.
 const FEW: usize = 1_024;
-
-/// The changes of a log that its last version needs, and the line of each.
-#[derive(Drop)]
-pub struct Shortener {
-    pub changes: Changes<Unworked>,
-    // By the numbers of the changes. There may be lines of changes that are gone.
-    pub lines: BTreeMap<u64, Vec<u8>>,
-    // How many there may be before those that are gone are looked for.
-    pub most: usize,
-    // No floor is above the last change.
-    ghost low: { changes.floor ≤ length changes.slots },
-}
 
 // The bytes of a line.
 fn copied(alloc: Global, line: &[u8]) -> Result<Vec<u8>, Memory>

@@ -4,12 +4,13 @@
 //! need, twice over at most. Texts are not analysed.
 #![tactic(auto)]
 
+mod held;
 mod keeping;
 mod laws;
 mod nothing;
 mod shortening;
 
-pub use keeping::Shortener;
+pub use held::Shortener;
 pub use laws::a_short_log_is_a_log;
 pub use nothing::Unworked;
 pub use shortening::{Shortened, shorten};

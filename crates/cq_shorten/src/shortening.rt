@@ -2,7 +2,7 @@ ghost use Rattle.std.specs.Prelude.{◌≡◌, IfOk, OnErr};
 ghost use Rattle.cq_base.specs.Settings.{IsInRange};
 ghost use Rattle.cq_shorten.specs.Shortened.{Shortens};
 
-use crate::keeping::Shortener;
+use crate::held::Shortener;
 use cq_base::{Memory, Settings};
 use cq_io::{Failed, Sink, Source};
 use cq_lines::{End, Lines};
