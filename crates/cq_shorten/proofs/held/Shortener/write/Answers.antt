@@ -1,7 +1,7 @@
 use Rattle.std.proofs.Common.{refl, sym, subst, ◌∙◌, arith}
 use Rattle.std.specs.Prelude.{IsNone}
 use Rattle.cq_shorten.proofs.Writing.{none_sent, line_sent, line_broken, all_sent, held_within}
-use Rattle.cq_shorten.proofs.keeping.Shortener.write.Goals as goal
+use Rattle.cq_shorten.proofs.held.Shortener.write.Goals as goal
 
 pub kept-init : goal.kept-init
 kept-init g c = record { low = omega arith; sent = none_sent c.args.self.now (g.K.Sink.written c.args.sink.now); faults = refl }

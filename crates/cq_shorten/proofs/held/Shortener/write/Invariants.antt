@@ -1,6 +1,6 @@
 use Rattle.std.proofs.Common.{◌≡◌, ◌≤◌, ◌-◌, length}
 use Rattle.cq_shorten.specs.Keeping.{SentUpTo}
-use Rattle.cq_shorten.proofs.keeping.Shortener.write.Given as goal
+use Rattle.cq_shorten.proofs.held.Shortener.write.Given as goal
 
 abbrev pub invariant-kept : goal.invariant-kept
 invariant-kept g l = record {
