@@ -16,7 +16,7 @@ use Rattle.cq_shorten.specs.declared.held.Shortener.{Shortener}
 use Rattle.cq_shorten.specs.declared.shortening.Shortened.TheVariants as shortened
 
 module _ {S K : Type 0} (from : source.Ghosts S) (onto : sink.Ghosts K) (set : Settings) (read read_now : S) (t : Shortener) where
-  log_read : (unclosed torn : Bool) → TakesAll Has set (from.rest read) (from.rest read_now) t unclosed torn → from.faults read_now ≡ from.faults read → ReadsLog from onto set read read_now
+  abbrev log_read : (unclosed torn : Bool) → TakesAll Has set (from.rest read) (from.rest read_now) t unclosed torn → from.faults read_now ≡ from.faults read → ReadsLog from onto set read read_now
   log_read unclosed torn all faults = record {
     got = all.got;
     bytes = all.bytes;
