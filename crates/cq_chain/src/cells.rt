@@ -143,6 +143,23 @@ impl<W: Indexed, R> Cells<W, R> {
         self.cells.join_pass(pass, other);
     }
 
+    /// The pass has then seen what another one has, too, which stays as it is. One of the two had seen all that the other
+    /// had.
+    pub fn level(&self, pass: &mut Pass<W>, other: &mut Pass<W>)
+        requires of { IsPassOf self.now pass.old × IsPassOf self.now other.old }
+        requires free { IsFree pass.old × IsFree other.old }
+        ensures of { IsPassOf self.now pass.new }
+        ensures same { IsSameCaller pass.old pass.new }
+        ensures other { other.new ≡ other.old }
+        ensures free { IsFree pass.new }
+        ensures seen { pass.new.seen ≡ longer pass.old.seen other.old.seen }
+        ensures one_history { AreOneHistory pass.old.seen other.old.seen }
+        ensures own { IsOwn pass.old pass.new.seen }
+        ensures least { (s : ℕ) → least pass.new s ≡ max (least pass.old s) (least other.old s) }
+    {
+        self.cells.level(pass, other);
+    }
+
     /// Cells of a board and its shards as they are made, and the pass of the first caller. It takes memory for a word and
     /// a slot for each; where that is refused, board and shards are given up.
     pub fn new(
@@ -150,6 +167,7 @@ impl<W: Indexed, R> Cells<W, R> {
         alloc: Global,
         board: Board<W>,
         shards: Vec<Shard>,
+        first_only: bool,
     ) -> Result<(Cells<W, R>, Pass<W>), Memory>
     where
         R: Drop,
@@ -159,12 +177,14 @@ impl<W: Indexed, R> Cells<W, R> {
         requires shards { AreFresh board.settings.shards shards.items }
         ensures settings { IfOk result (λ c. c.0.about.settings ≡ board.settings) }
         ensures callers { IfOk result (λ c. c.0.about.callers ≡ length board.state.views) }
+        ensures first_only { IfOk result (λ c. c.0.about.first_only ≡ first_only) }
         ensures of { IfOk result (λ c. IsPassOf c.0 c.1) }
         ensures first { IfOk result (λ c. c.1 ≡ first_pass c.0) }
     {
         let about = About {
             settings: *board.settings(),
             callers: board.callers(),
+            first_only,
         };
         let (cells, pass) = cq_cells::Cells::new(rt, alloc, &about, board, shards)?;
         Ok((Cells { cells }, pass))
