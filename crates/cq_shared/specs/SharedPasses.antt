@@ -1,5 +1,5 @@
 -- What a shared hub and its passes are, and for which histories a pass stands.
-use Rattle.std.proofs.Common.{◌≡◌, ℕ, ◌<◌, ◌≤◌, List, drop, subst}
+use Rattle.std.proofs.Common.{◌≡◌, ℕ, ◌<◌, ◌≤◌, true, false, List, drop, subst}
 use Rattle.std.specs.Prelude.{All}
 use Rattle.cq_base.specs.declared.settings.Settings.{Settings}
 use Rattle.cq_base.specs.Changes.{IsSoundChange}
@@ -27,6 +27,17 @@ module _ {W R : Type 0} where
   -- how many callers its history may have
   abbrev pub callers_of : Shared W R → ℕ
   callers_of hub = hub.cells.about.callers
+
+  -- if only the first caller accepts changes, the pass is that caller's
+  abbrev pub MayAccept : Shared W R → BoardPass → Type 0
+  MayAccept hub p = hub.cells.about.first_only ≡ true → by_of p ≡ 0
+
+  -- each of its passes may accept changes, or only that of the first caller
+  abbrev pub AnyAccepts : Shared W R → Type 0
+  AnyAccepts hub = hub.cells.about.first_only ≡ false
+
+  abbrev pub OnlyFirstAccepts : Shared W R → Type 0
+  OnlyFirstAccepts hub = hub.cells.about.first_only ≡ true
 
   -- the state that a history of it leaves
   abbrev pub state_of : Shared W R → List Event → State
