@@ -6,3 +6,5 @@ pub mod Viewing
 pub mod Turn
 pub mod Passes
 pub mod Serving
+pub mod Keeping
+pub mod Overs

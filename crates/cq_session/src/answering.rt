@@ -1,12 +1,16 @@
-ghost use Rattle.std.specs.Prelude.{◌≡◌, ◌≤◌, IfOk, OnErr};
+ghost use Rattle.std.specs.Prelude.{◌≡◌, ◌≤◌, Ok as ok, None, IfOk, IfSome, IsNone, OnErr};
 ghost use Rattle.cq_answer.specs.Parts.{HasPath, HasScope};
 ghost use Rattle.cq_base.specs.Changes.{IsSoundChange};
 ghost use Rattle.cq_base.specs.Settings.{IsInRange};
 ghost use Rattle.cq_hub.specs.Hubs.{IsPassOf};
 ghost use Rattle.cq_reply.specs.Written.{IsReplyText};
+ghost use Rattle.cq_request.specs.Reading.{line_says};
+ghost use Rattle.cq_request.specs.declared.request.Request.TheVariants as request;
+ghost use Rattle.cq_session.specs.Keeping.{IsBroken};
 ghost use Rattle.cq_session.specs.Passes.{Begins, GivesUp, HasAccepted, HasAnswered, HasChanged, HasTold, HasWaited, Replies};
 
 use crate::helping::help;
+use crate::keeper::{Keeper, Unkept};
 use crate::viewing::view_reply;
 use cq_answer::refused_as;
 use cq_base::{Change, Memory, Settings, Steps};
@@ -21,60 +25,77 @@ use std::alloc::Global;
 use std::sync::ledger::Ledger;
 use std::thread::Threads;
 
-fn change_reply<W: Indexed, H: Hub<W>, G: Gate>(
+// The reply to a change that a line says; none if its line could not be kept.
+fn change_reply<W: Indexed, H: Hub<W>, P: Keeper<W, H>, G: Gate>(
     alloc: Global,
     hub: &H,
+    keeper: &P,
     change: Change,
+    line: &[u8],
     gate: &G,
     pass: &mut H::Pass,
-) -> Result<Reply, Memory>
+) -> Result<Option<Reply>, Memory>
+    requires keeps { P.Keeps keeper.now hub.now }
     requires stands { IsPassOf H.Stands hub.now pass.old }
     requires sound { IsSoundChange change }
-    ensures replies { IfOk result (HasChanged H.Hub hub.now pass.old pass.new change) }
-    ensures text { IfOk result IsReplyText }
+    requires says { line_says (H.settings hub.now).chunk line.now ≡ ok (request.Change change) }
+    ensures replies { IfOk result (λ reply. IfSome reply
+        (HasChanged H.Hub hub.now pass.old pass.new (P.acceptor keeper.now) change)) }
+    ensures text { IfOk result (λ reply. IfSome reply IsReplyText) }
+    ensures broken { IfOk result
+        (IsBroken (P.Breaks keeper.now) (HasWaited H.Hub hub.now pass.old pass.new)) }
     ensures refused { OnErr result (HasWaited H.Hub hub.now pass.old pass.new) }
     ensures asked { H.asked pass.new ≡ H.asked pass.old }
 {
-    match hub.accept(alloc, change, pass) {
+    match keeper.accept(hub, alloc, change, line, pass) {
         Ok(number) => {
             gate.after_accept(number);
-            Ok(Reply::Change(number))
+            Ok(Some(Reply::Change(number)))
         }
-        Err(Refused::Absent) => Ok(Reply::Absent),
-        Err(Refused::FullChanges) => Ok(Reply::FullChanges),
-        Err(Refused::FullText) => Ok(Reply::FullText),
-        Err(Refused::Memory) => Err(Memory),
+        Err(Unkept::Refused(Refused::Absent)) => Ok(Some(Reply::Absent)),
+        Err(Unkept::Refused(Refused::FullChanges)) => Ok(Some(Reply::FullChanges)),
+        Err(Unkept::Refused(Refused::FullText)) => Ok(Some(Reply::FullText)),
+        Err(Unkept::Refused(Refused::Memory)) => Err(Memory),
+        Err(Unkept::Broken) => Ok(None),
     }
 }
 
-fn state_reply<W: Indexed, H: Hub<W>>(hub: &H, pass: &mut H::Pass) -> Reply
+// The reply that reports the state; none if a line could not be kept.
+fn state_reply<W: Indexed, H: Hub<W>, P: Keeper<W, H>>(
+    hub: &H,
+    keeper: &P,
+    pass: &mut H::Pass,
+) -> Option<Reply>
     requires stands { IsPassOf H.Stands hub.now pass.old }
-    ensures replies { HasTold H.Hub hub.now pass.old pass.new result }
-    ensures text { IsReplyText result }
+    ensures replies { IfSome result (HasTold H.Hub hub.now pass.old pass.new) }
+    ensures text { IfSome result IsReplyText }
+    ensures broken { IsBroken (P.Breaks keeper.now)
+        (HasWaited H.Hub hub.now pass.old pass.new) result }
     ensures asked { H.asked pass.new ≡ H.asked pass.old }
 {
-    let asked = hub.ask(pass);
-    Reply::State {
+    let asked = keeper.ask(hub, pass)?;
+    Some(Reply::State {
         accepted: asked.accepted,
         done: asked.done,
         published: asked.published,
-    }
+    })
 }
 
-/// The reply to a query whose floor is at least `seen`. Behind an answer by a view the hub is swept. Where memory is
-/// refused, what was done is a beginning of what the query does.
-pub fn query_reply<R: Threads + Sync, L: Ledger, H: Hub<Work<L>>, G: Gate>(
+/// The reply to a query whose floor is at least `seen`; none if a line could not be kept, and then nothing was done. Behind an
+/// answer by a view the hub is swept. Where memory is refused, what was done is a beginning of what the query does.
+pub fn query_reply<R: Threads + Sync, L: Ledger, H: Hub<Work<L>>, P: Keeper<Work<L>, H>, G: Gate>(
     rt: &R,
     alloc: Global,
     settings: &Settings,
     keyer: &Keyer,
     hub: &H,
+    keeper: &P,
     query: &Query,
     seen: u64,
     gate: &G,
     pass: &mut H::Pass,
     steps: &mut Steps<L>,
-) -> Result<Reply, Memory>
+) -> Result<Option<Reply>, Memory>
     requires in_range { IsInRange settings.now }
     requires settings { keyer.now.settings ≡ settings.now }
     requires hub_settings { H.settings hub.now ≡ settings.now }
@@ -82,15 +103,19 @@ pub fn query_reply<R: Threads + Sync, L: Ledger, H: Hub<Work<L>>, G: Gate>(
     requires path { HasPath query.now.kind query.now.path }
     requires scope { HasScope query.now.path query.now.scope }
     requires closed { HasAccepted H.Hub hub.now pass.old seen }
-    ensures replies { IfOk result
-        (HasAnswered H.Hub hub.now pass.old pass.new steps.old steps.new seen query.now) }
-    ensures text { IfOk result IsReplyText }
+    ensures replies { IfOk result (λ reply. IfSome reply
+        (HasAnswered H.Hub hub.now pass.old pass.new steps.old steps.new seen query.now)) }
+    ensures text { IfOk result (λ reply. IfSome reply IsReplyText) }
+    ensures broken { IfOk result
+        (IsBroken (P.Breaks keeper.now) (HasWaited H.Hub hub.now pass.old pass.new)) }
     ensures refused { OnErr result
         (GivesUp H.Hub hub.now pass.old pass.new steps.old steps.new seen query.now) }
 {
-    let asked = hub.ask(pass);
+    let Some(asked) = keeper.ask(hub, pass) else {
+        return Ok(None);
+    };
     if query.at > asked.accepted {
-        return Ok(Reply::Future(asked.accepted));
+        return Ok(Some(Reply::Future(asked.accepted)));
     }
     if query.finish {
         return match help(
@@ -103,7 +128,7 @@ pub fn query_reply<R: Threads + Sync, L: Ledger, H: Hub<Work<L>>, G: Gate>(
             gate,
             pass,
         ) {
-            Ok(()) => view_reply(
+            Ok(()) => match view_reply(
                 rt,
                 alloc,
                 settings,
@@ -113,49 +138,71 @@ pub fn query_reply<R: Threads + Sync, L: Ledger, H: Hub<Work<L>>, G: Gate>(
                 gate,
                 pass,
                 steps,
-            ),
+            ) {
+                Ok(reply) => Ok(Some(reply)),
+                Err(Memory) => Err(Memory),
+            },
             Err(Memory) => Err(Memory),
         };
     }
     if seen.max(query.at) > asked.done {
-        return Ok(Reply::Pending(asked.done + 1));
+        return Ok(Some(Reply::Pending(asked.done + 1)));
     }
-    view_reply(
+    match view_reply(
         rt, alloc, settings, hub, query, asked.done, gate, pass, steps,
-    )
+    ) {
+        Ok(reply) => Ok(Some(reply)),
+        Err(Memory) => Err(Memory),
+    }
 }
 
-/// The reply to what a line says. Where memory is refused, what was done is a beginning of what the line does.
-pub(crate) fn reply_to<R: Threads + Sync, L: Ledger, H: Hub<Work<L>>, G: Gate>(
+/// The reply to what a line says; none if a line could not be kept. Where memory is refused, what was done is a beginning of
+/// what the line does.
+pub(crate) fn reply_to<
+    R: Threads + Sync,
+    L: Ledger,
+    H: Hub<Work<L>>,
+    P: Keeper<Work<L>, H>,
+    G: Gate,
+>(
     rt: &R,
     alloc: Global,
     settings: &Settings,
     keyer: &Keyer,
     hub: &H,
+    keeper: &P,
     line: &[u8],
     seen: u64,
     gate: &G,
     pass: &mut H::Pass,
     steps: &mut Steps<L>,
-) -> Result<Reply, Memory>
+) -> Result<Option<Reply>, Memory>
     requires in_range { IsInRange settings.now }
     requires settings { keyer.now.settings ≡ settings.now }
     requires hub_settings { H.settings hub.now ≡ settings.now }
+    requires keeps { P.Keeps keeper.now hub.now }
     requires closed { HasAccepted H.Hub hub.now pass.old seen }
-    ensures replies { IfOk result (Replies H.Hub hub.now pass.old pass.new
-        steps.old steps.new seen settings.now line.now) }
-    ensures text { IfOk result IsReplyText }
+    ensures replies { IfOk result (λ reply. IfSome reply (Replies H.Hub hub.now pass.old pass.new
+        steps.old steps.new seen (P.acceptor keeper.now) settings.now line.now)) }
+    ensures text { IfOk result (λ reply. IfSome reply IsReplyText) }
+    ensures broken { IfOk result
+        (IsBroken (P.Breaks keeper.now) (HasWaited H.Hub hub.now pass.old pass.new)) }
     ensures refused { OnErr result (Begins H.Hub hub.now pass.old pass.new
         steps.old steps.new seen settings.now line.now) }
 {
     match read_request(alloc, settings, line) {
-        Ok(Request::Change(change)) => change_reply(alloc, hub, change, gate, pass),
+        Ok(Request::Change(change)) => {
+            change_reply(alloc, hub, keeper, change, line, gate, pass)
+        }
         Ok(Request::Query(query)) => {
             query_reply(
-                rt, alloc, settings, keyer, hub, &query, seen, gate, pass, steps,
+                rt, alloc, settings, keyer, hub, keeper, &query, seen, gate, pass, steps,
             )
         }
-        Ok(Request::State) => Ok(state_reply(hub, pass)),
-        Err(refusal) => refused_as(refusal),
+        Ok(Request::State) => Ok(state_reply(hub, keeper, pass)),
+        Err(refusal) => match refused_as(refusal) {
+            Ok(reply) => Ok(Some(reply)),
+            Err(Memory) => Err(Memory),
+        },
     }
 }

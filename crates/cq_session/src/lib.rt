@@ -12,6 +12,7 @@
 mod answering;
 mod buckets;
 mod helping;
+mod keeper;
 mod project;
 mod serving;
 mod telling;
@@ -19,5 +20,6 @@ mod viewing;
 
 pub use answering::query_reply;
 pub use buckets::PassBuckets;
+pub use keeper::{Keeper, NoLog, Unkept};
 pub use project::keep;
-pub use serving::session;
+pub use serving::{Over, kept_session, session};

@@ -1,9 +1,11 @@
-ghost use Rattle.std.specs.Prelude.{◌≡◌};
+ghost use Rattle.std.specs.Prelude.{◌≡◌, IfSome};
 ghost use Rattle.cq_base.specs.Settings.{IsInRange};
 ghost use Rattle.cq_talk.specs.Replies.{named as named_in};
-ghost use Rattle.cq_session.specs.Passes.{HasAccepted, HasLine};
+ghost use Rattle.cq_session.specs.Keeping.{IsBroken};
+ghost use Rattle.cq_session.specs.Passes.{HasAccepted, HasLine, HasWaited};
 
 use crate::answering::reply_to;
+use crate::keeper::Keeper;
 use cq_base::{Memory, Settings, Steps};
 use cq_hub::Hub;
 use cq_io::Gate;
@@ -29,33 +31,38 @@ fn named(reply: &Reply) -> u64
     }
 }
 
-/// The line that tells the reply to a line, and the number that the reply names.
-pub(crate) fn told<R: Threads + Sync, L: Ledger, H: Hub<Work<L>>, G: Gate>(
+/// The line that tells the reply to a line, and the number that the reply names; none if a line could not be kept.
+pub(crate) fn told<R: Threads + Sync, L: Ledger, H: Hub<Work<L>>, P: Keeper<Work<L>, H>, G: Gate>(
     rt: &R,
     alloc: Global,
     settings: &Settings,
     keyer: &Keyer,
     hub: &H,
+    keeper: &P,
     line: &[u8],
     seen: u64,
     gate: &G,
     pass: &mut H::Pass,
     steps: &mut Steps<L>,
-) -> (Line, u64)
+) -> Option<(Line, u64)>
     requires in_range { IsInRange settings.now }
     requires settings { keyer.now.settings ≡ settings.now }
     requires hub_settings { H.settings hub.now ≡ settings.now }
+    requires keeps { P.Keeps keeper.now hub.now }
     requires closed { HasAccepted H.Hub hub.now pass.old seen }
-    ensures { HasLine H.Hub hub.now pass.old pass.new
-        steps.old steps.new seen settings.now line.now result }
+    ensures line { IfSome result (HasLine H.Hub hub.now pass.old pass.new
+        steps.old steps.new seen (P.acceptor keeper.now) settings.now line.now) }
+    ensures broken { IsBroken (P.Breaks keeper.now)
+        (HasWaited H.Hub hub.now pass.old pass.new) result }
 {
     match reply_to(
-        rt, alloc, settings, keyer, hub, line, seen, gate, pass, steps,
+        rt, alloc, settings, keyer, hub, keeper, line, seen, gate, pass, steps,
     ) {
-        Ok(reply) => match line_of(alloc, &reply) {
-            Ok(line) => (line, named(&reply)),
-            Err(Memory) => (Line::Short(fixed(Short::Memory)), 0),
+        Ok(Some(reply)) => match line_of(alloc, &reply) {
+            Ok(line) => Some((line, named(&reply))),
+            Err(Memory) => Some((Line::Short(fixed(Short::Memory)), 0)),
         },
-        Err(Memory) => (Line::Short(fixed(Short::Memory)), 0),
+        Ok(None) => None,
+        Err(Memory) => Some((Line::Short(fixed(Short::Memory)), 0)),
     }
 }
