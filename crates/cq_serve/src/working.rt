@@ -9,6 +9,7 @@ use crate::taking::turn;
 use cq_base::Settings;
 use cq_hub::Hub;
 use cq_io::Gate;
+use cq_session::Keeper;
 use cq_work::{Keyer, Work};
 use std::alloc::Global;
 use std::sync::Wait;
@@ -27,12 +28,13 @@ fn rest<Q: Wait>(rt: &Q, bell: &Bell, heard: u64, came: Turn) {
 
 /// A worker: takes turns until the bell's end. Where there is no change to take, or no memory, it sleeps until the bell
 /// rings.
-pub fn work<Q: Wait, L: Ledger, H: Hub<Work<L>>, G: Gate>(
+pub fn work<Q: Wait, L: Ledger, H: Hub<Work<L>>, P: Keeper<Work<L>, H>, G: Gate>(
     rt: &Q,
     alloc: Global,
     settings: &Settings,
     keyer: &Keyer,
     hub: &H,
+    keeper: &P,
     pass: H::Pass,
     gate: &G,
     bell: &Bell,
@@ -49,7 +51,7 @@ pub fn work<Q: Wait, L: Ledger, H: Hub<Work<L>>, G: Gate>(
         let Some(heard) = bell.heard(rt) else {
             break;
         };
-        let came = turn(alloc, settings, keyer, hub, &mut pass, gate);
+        let came = turn(alloc, settings, keyer, hub, keeper, &mut pass, gate);
         rest(rt, bell, heard, came);
     }
     pass

@@ -10,7 +10,7 @@ ghost use Rattle.cq_session.specs.Keeping.{IsBroken};
 ghost use Rattle.cq_session.specs.Passes.{Begins, GivesUp, HasAccepted, HasAnswered, HasChanged, HasTold, HasWaited, Replies};
 
 use crate::helping::help;
-use crate::keeper::{Keeper, Unkept};
+use crate::keeper::{Keeper, NoLog, Unkept};
 use crate::viewing::view_reply;
 use cq_answer::refused_as;
 use cq_base::{Change, Memory, Settings, Steps};
@@ -81,9 +81,9 @@ fn state_reply<W: Indexed, H: Hub<W>, P: Keeper<W, H>>(
     })
 }
 
-/// The reply to a query whose floor is at least `seen`; none if a line could not be kept, and then nothing was done. Behind an
-/// answer by a view the hub is swept. Where memory is refused, what was done is a beginning of what the query does.
-pub fn query_reply<R: Threads + Sync, L: Ledger, H: Hub<Work<L>>, P: Keeper<Work<L>, H>, G: Gate>(
+// The reply to a query whose floor is at least `seen`; none if a line could not be kept, and then nothing was done. Behind an
+// answer by a view the hub is swept. Where memory is refused, what was done is a beginning of what the query does.
+fn kept_query_reply<R: Threads + Sync, L: Ledger, H: Hub<Work<L>>, P: Keeper<Work<L>, H>, G: Gate>(
     rt: &R,
     alloc: Global,
     settings: &Settings,
@@ -156,6 +156,42 @@ pub fn query_reply<R: Threads + Sync, L: Ledger, H: Hub<Work<L>>, P: Keeper<Work
     }
 }
 
+/// The reply to a query whose floor is at least `seen`. Behind an answer by a view the hub is swept. Where memory is
+/// refused, what was done is a beginning of what the query does.
+pub fn query_reply<R: Threads + Sync, L: Ledger, H: Hub<Work<L>>, G: Gate>(
+    rt: &R,
+    alloc: Global,
+    settings: &Settings,
+    keyer: &Keyer,
+    hub: &H,
+    query: &Query,
+    seen: u64,
+    gate: &G,
+    pass: &mut H::Pass,
+    steps: &mut Steps<L>,
+) -> Result<Reply, Memory>
+    requires in_range { IsInRange settings.now }
+    requires settings { keyer.now.settings ≡ settings.now }
+    requires hub_settings { H.settings hub.now ≡ settings.now }
+    requires long { settings.now.chunk ≤ query.now.min }
+    requires path { HasPath query.now.kind query.now.path }
+    requires scope { HasScope query.now.path query.now.scope }
+    requires closed { HasAccepted H.Hub hub.now pass.old seen }
+    ensures replies { IfOk result
+        (HasAnswered H.Hub hub.now pass.old pass.new steps.old steps.new seen query.now) }
+    ensures text { IfOk result IsReplyText }
+    ensures refused { OnErr result
+        (GivesUp H.Hub hub.now pass.old pass.new steps.old steps.new seen query.now) }
+{
+    match kept_query_reply(
+        rt, alloc, settings, keyer, hub, &NoLog, query, seen, gate, pass, steps,
+    ) {
+        Ok(Some(reply)) => Ok(reply),
+        Ok(None) => unreachable!(),
+        Err(Memory) => Err(Memory),
+    }
+}
+
 /// The reply to what a line says; none if a line could not be kept. Where memory is refused, what was done is a beginning of
 /// what the line does.
 pub(crate) fn reply_to<
@@ -195,7 +231,7 @@ pub(crate) fn reply_to<
             change_reply(alloc, hub, keeper, change, line, gate, pass)
         }
         Ok(Request::Query(query)) => {
-            query_reply(
+            kept_query_reply(
                 rt, alloc, settings, keyer, hub, keeper, &query, seen, gate, pass, steps,
             )
         }
