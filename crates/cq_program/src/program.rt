@@ -11,6 +11,7 @@ ghost use Rattle.cq_words.specs.declared.command.Listen.{Listen};
 ghost use Rattle.cq_words.specs.declared.command.Make.{Make};
 
 use crate::clients::listen;
+use crate::logged::serve_logged;
 use crate::status::{Exit, Status, status_of, status_of_asked, status_of_exported};
 use crate::workers::serve_with_workers;
 use cq_base::{Memory, Settings, Steps, Text};
@@ -200,7 +201,7 @@ fn exported<S: Source, K: Sink, L: Ledger>(
 pub fn top<
     Q: Threads + Wait + Sync,
     S: Source,
-    K: Sink,
+    K: Sink + Send,
     I: Source + Send + Drop,
     O: Sink + Send + Drop,
     D: Doors<In = I, Out = O>,
@@ -281,6 +282,9 @@ pub fn top<
             served: None,
         },
         Ok(Some(Command::Listen(asked))) => listen(rt, alloc, asked, doors, gate),
+        Ok(Some(Command::Serve(asked))) => {
+            serve_logged(rt, alloc, asked, source, sink, doors, gate)
+        }
         Ok(Some(Command::Drive(settings))) => Exit {
             status: driven(rt, alloc, &settings, source, sink, steps),
             served: None,

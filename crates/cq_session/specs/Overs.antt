@@ -29,7 +29,7 @@ module _ {H W P : Type 0} (of : Ghosts H W P) (hub : H) (old new : P) (reads rea
 
   -- of one line: its reply is sent and what it names is seen, or a line could not be kept, and nothing was sent
   abbrev Turned : {E : Type 0} → (ℕ → ℕ) → ℕ → Settings → List ℕ → Option (List ℕ) → Option (List ℕ) → Result Bool E → ℕ → ℕ → List Event → List Event → Type 0
-  Turned acceptor seen set line before written_now (Ok true) seen_now c h after = turn.Turns set (of.callers hub) of.alone c (acceptor c) seen h spent line before written_now (Ok {0} {Unit {0}} tt) seen_now after
+  Turned acceptor seen set line before written_now (Ok true) seen_now c h after = turn.Turns set (of.callers hub) of.alone c (acceptor c) seen h spent line before written_now (Ok tt) seen_now after
   Turned acceptor seen set line before written_now (Ok false) seen_now c h after = Waits of.alone c h after × (written_now ≡ before) × (seen_now ≡ seen)
   Turned acceptor seen set line before written_now (Err e) seen_now c h after = turn.Turns set (of.callers hub) of.alone c (acceptor c) seen h spent line before written_now (Err e) seen_now after
 

@@ -8,7 +8,7 @@ pub struct Run {
     pub workers: u32,
 }
 
-/// What the words of `listen` give.
+/// What the words of `listen` and `serve` give.
 #[derive(Debug, Drop, PartialEq, Eq)]
 pub struct Listen {
     pub settings: Settings,
@@ -46,6 +46,8 @@ pub enum Command {
     Run(Run),
     /// A session over the lines of each connection to an address.
     Listen(Listen),
+    /// The same, by a server that takes its log from the input and continues it in the output.
+    Serve(Listen),
     /// The core, stepped by the lines of the input.
     Drive(Settings),
     /// A project that is made, put and listed; no input is read.

@@ -7,6 +7,7 @@ ghost use Rattle.cq_words.specs.Table as spec;
 pub(crate) enum Verb {
     Run,
     Listen,
+    Serve,
     Drive,
     Make,
     Export,
@@ -96,6 +97,9 @@ pub(crate) fn verb_named(word: &[u8]) -> Option<Verb>
     if word == b"listen".as_slice() {
         return Some(Verb::Listen);
     }
+    if word == b"serve".as_slice() {
+        return Some(Verb::Serve);
+    }
     if word == b"drive".as_slice() {
         return Some(Verb::Drive);
     }
@@ -117,6 +121,7 @@ pub(crate) fn verb_name(verb: Verb) -> &'static str
     match verb {
         Verb::Run => "run",
         Verb::Listen => "listen",
+        Verb::Serve => "serve",
         Verb::Drive => "drive",
         Verb::Make => "make",
         Verb::Export => "export",
@@ -129,7 +134,7 @@ pub(crate) fn options_of(verb: Verb) -> &'static [Param]
 {
     match verb {
         Verb::Run => &RUN_OPTIONS,
-        Verb::Listen => &LISTEN_OPTIONS,
+        Verb::Listen | Verb::Serve => &LISTEN_OPTIONS,
         Verb::Drive | Verb::Export | Verb::Ask => &SETTINGS_OPTIONS,
         Verb::Make => &[],
     }
@@ -139,7 +144,7 @@ pub(crate) fn flags_of(verb: Verb) -> &'static [Flag]
     ensures { result.now ≡ spec.flags_of verb }
 {
     match verb {
-        Verb::Run | Verb::Listen | Verb::Drive | Verb::Export | Verb::Ask => &FLAGS,
+        Verb::Run | Verb::Listen | Verb::Serve | Verb::Drive | Verb::Export | Verb::Ask => &FLAGS,
         Verb::Make => &[],
     }
 }
@@ -150,7 +155,7 @@ pub(crate) fn positionals_of(verb: Verb) -> &'static [Param]
 {
     match verb {
         Verb::Run | Verb::Drive | Verb::Ask => &[],
-        Verb::Listen => &LISTEN_POSITIONALS,
+        Verb::Listen | Verb::Serve => &LISTEN_POSITIONALS,
         Verb::Make => &MAKE_POSITIONALS,
         Verb::Export => &EXPORT_POSITIONALS,
     }

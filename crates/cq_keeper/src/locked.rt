@@ -1,0 +1,131 @@
+ghost use Rattle.std.specs.Prelude.{◌≡◌, ◌<◌, true, false, Ok, Err, drop, length, IfOk, IfErr, IfSome, IsNone};
+ghost use Rattle.cq_base.specs.Changes.{IsSoundChange};
+ghost use Rattle.cq_history.specs.State.{accepted};
+ghost use Rattle.cq_hub.specs.Answers.{IsTold};
+ghost use Rattle.cq_keeper.specs.Kept.{AcceptsByFirst, IsLogOf};
+ghost use Rattle.cq_lines.specs.Pieces.{HasNoFeed};
+ghost use Rattle.cq_request.specs.Reading.{line_says};
+ghost use Rattle.cq_request.specs.declared.request.Request.TheVariants as request;
+ghost use Rattle.cq_session.specs.Keeping.{RefusesKept};
+ghost use Rattle.cq_session.specs.declared.keeper.Unkept.TheVariants as unkept;
+ghost use Rattle.cq_shared.specs.SharedPasses.{IsPassOf, cells_of, settings_of};
+
+use crate::naming::LogOf;
+use cq_base::Change;
+use cq_board::Asked;
+use cq_chain::Pass;
+use cq_io::{Failed, Sink};
+use cq_keep::LineLog;
+use cq_session::Unkept;
+use cq_shard::Indexed;
+use cq_shared::Shared;
+use std::alloc::Global;
+use std::marker::{Model, PhantomData};
+use std::sync::Wait;
+
+/// What is in the lock: the log, and the pass of the first caller, which has seen each acceptance. If each line was written
+/// whole, the lines that were written are those of the accepted changes.
+#[derive(Drop)]
+pub struct Locked<W: Indexed, K: Sink + Drop, N: LogOf> {
+    log: LineLog<K>,
+    pass: Pass<W>,
+    of: PhantomData<N>,
+}
+
+impl<W: Indexed, K: Sink + Drop, N: LogOf> Model for Locked<W, K, N> {
+    ghost use Rattle.cq_keep.specs.declared.line_log.LineLog.{LineLog};
+    ghost use Rattle.cq_keeper.specs.Kept.{IsLogOf};
+
+    ghost Value = { LineLog K };
+
+    ghost view = { λ l. l.log };
+
+    ghost invariant = { λ l. IsLogOf K.Sink N.LogOf l.log l.pass };
+}
+
+impl<W: Indexed, K: Sink + Drop, N: LogOf> Locked<W, K, N> {
+    /// The log that begins with this sink, by the pass of the first caller.
+    pub fn new(sink: K, pass: Pass<W>) -> Self
+        requires log { IsLogOf K.Sink N.LogOf (record { sink = sink; whole = true }) pass }
+        ensures { result ≡ record { sink = sink; whole = true } }
+    {
+        Locked {
+            log: LineLog::new(sink),
+            pass,
+            of: PhantomData,
+        }
+    }
+
+    /// Whether each line was written whole.
+    pub fn is_whole(&self) -> bool
+        ensures { result ≡ self.now.whole }
+    {
+        self.log.whole
+    }
+
+    /// Accepts a change by the first caller and writes the line that says it. What the pass has seen then begins with what it had
+    /// seen, and ends with the acceptance.
+    pub fn accept<R: Wait>(
+        &mut self,
+        hub: &Shared<W, R>,
+        alloc: Global,
+        change: Change,
+        line: &[u8],
+        pass: &mut Pass<W>,
+    ) -> Result<u64, Unkept>
+        requires keeps { cells_of hub.now ≡ N.cells }
+        requires of { IsPassOf hub.now pass.old }
+        requires sound { IsSoundChange change }
+        requires says { line_says (settings_of hub.now).chunk line.now
+            ≡ Ok (request.Change change) }
+        requires no_feed { HasNoFeed line.now }
+        ensures accepted { IfOk result
+            (AcceptsByFirst hub.now pass.old pass.new change) }
+        ensures kept { IfOk result (λ _. self.new.whole ≡ true) }
+        ensures broken { result ≡ Err unkept.Broken → self.new.whole ≡ false }
+        ensures asked { pass.new.asked ≡ pass.old.asked }
+    {
+        if !self.log.whole {
+            return Err(Unkept::Broken);
+        }
+        hub.level(&mut self.pass, pass);
+        match hub.accept(alloc, change, &mut self.pass) {
+            Ok(number) => {
+                hub.level(pass, &mut self.pass);
+                match self.log.keep(line) {
+                    Ok(()) => Ok(number),
+                    Err(Failed) => Err(Unkept::Broken),
+                }
+            }
+            Err(cause) => {
+                hub.level(pass, &mut self.pass);
+                Err(Unkept::Refused(cause))
+            }
+        }
+    }
+
+    /// What a caller sees of the changes, each of which has its line; none if a line was not written whole.
+    pub fn ask<R: Wait>(&self, hub: &Shared<W, R>, pass: &mut Pass<W>) -> Option<Asked>
+        requires of { IsPassOf hub.now pass.old }
+        ensures still { IsNone result → pass.new ≡ pass.old }
+        ensures broken { IsNone result → self.now.whole ≡ false }
+        ensures asked { pass.new.asked ≡ pass.old.asked }
+    {
+        if !self.log.whole {
+            return None;
+        }
+        Some(hub.ask(pass))
+    }
+
+    /// The log.
+    pub fn into_log(self) -> LineLog<K>
+        ensures { result ≡ self }
+    {
+        let Locked {
+            log,
+            pass: _,
+            of: _,
+        } = self;
+        log
+    }
+}
