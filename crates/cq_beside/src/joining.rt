@@ -5,7 +5,7 @@ ghost use Rattle.cq_base.specs.declared.settings.Settings.{Settings as HubSettin
 ghost use Rattle.cq_cells.specs.Passes.{by_of};
 ghost use Rattle.cq_history.specs.declared.event.Event.{Event as Happened};
 ghost use Rattle.cq_history.specs.State.{view_of};
-ghost use Rattle.cq_shared.specs.SharedPasses.{AnyAccepts, IsPassOf, settings_of, callers_of, state_of};
+ghost use Rattle.cq_shared.specs.SharedPasses.{IsPassOf, settings_of, callers_of, state_of};
 ghost use Rattle.cq_beside.specs.Besides.{Besides, Worked};
 
 use cq_base::Settings;
@@ -43,7 +43,6 @@ pub(crate) trait Talker<L: Ledger, R: Wait> {
         requires crosses { IsSync Q.row }
         requires may { MayTalk self }
         requires settings { settings_of hub.now ≡ settings self }
-        requires accepts { AnyAccepts hub.now }
         requires of { IsPassOf hub.now pass.old }
         requires closed { view_of (state_of hub.now pass.old.seen) (by_of pass.old) ≡ None }
         requires unasked { pass.old.asked ≡ 0 }
@@ -82,7 +81,6 @@ fn apart<Q: Threads + Wait + Sync, L: Ledger, R: Wait, T: Talker<L, R>>(
 ) -> (T::Told, Pass<Work<L>>)
     requires may { T.MayTalk talker }
     requires talks { settings_of hub.now ≡ T.settings talker }
-    requires accepts { AnyAccepts hub.now }
     requires of { IsPassOf hub.now pass }
     requires room { 0 < pass.room }
     ensures besides { Besides hub.now pass 0 result.1
@@ -119,7 +117,6 @@ pub(crate) fn beside<
     requires settings { settings_of hub.now ≡ settings.now }
     requires may { T.MayTalk talker }
     requires talks { settings_of hub.now ≡ T.settings talker }
-    requires accepts { AnyAccepts hub.now }
     requires of { IsPassOf hub.now pass }
     requires room { workers < pass.room }
     ensures besides { Besides hub.now pass workers result.1
@@ -141,7 +138,6 @@ pub(crate) fn beside<
         move || -> (T::Told, Pass<Work<L>>)
             requires { IsInRange settings.now × (settings_of hub.now ≡ settings.now)
                 × T.MayTalk talker × (settings_of hub.now ≡ T.settings talker)
-                × AnyAccepts hub.now
                 × IsPassOf hub.now pass × (fewer < pass.room) }
             ensures { Besides hub.entry.now pass fewer result.1
                 (T.Said talker result.0 (callers_of hub.entry.now)) }

@@ -3,7 +3,7 @@ ghost use Rattle.cq_base.specs.Settings.{IsInRange};
 ghost use Rattle.cq_lines.specs.Runs.{IsFresh};
 ghost use Rattle.cq_lines.specs.Serving.{HasCauseOfEnd, ServesLines};
 ghost use Rattle.cq_reply.specs.Written.{line_of};
-ghost use Rattle.cq_shared.specs.SharedPasses.{AnyAccepts, IsPassOf, settings_of, callers_of};
+ghost use Rattle.cq_shared.specs.SharedPasses.{IsPassOf, settings_of, callers_of};
 ghost use Rattle.cq_beside.specs.Replies.{AreWithWorkers};
 ghost use Rattle.cq_beside.specs.Served.{IsServed, IsFirst};
 
@@ -128,7 +128,6 @@ pub fn serve_one<
     requires in_range { IsInRange settings.now }
     requires settings { keyer.now.settings ≡ settings.now }
     requires hub_settings { settings_of hub.now ≡ settings.now }
-    requires accepts { AnyAccepts hub.now }
     requires of { IsPassOf hub.now pass }
     requires room { workers < pass.room }
     ensures served { IsServed S.Source K.Sink settings.now

@@ -27,6 +27,7 @@ pub type Pass<W> = cq_cells::Pass<Board<W>, Shard, Event, About>;
 #[derive(Drop)]
 pub struct Cells<W: Indexed, R> {
     cells: cq_cells::Cells<Board<W>, Shard, Event, About, BoardLaw<W>, R>,
+    first_only: bool,
 }
 
 impl<W: Indexed, R> Model for Cells<W, R> {
@@ -37,7 +38,7 @@ impl<W: Indexed, R> Model for Cells<W, R> {
 
     ghost view = { λ c. c.cells };
 
-    ghost invariant = { λ c. (c.cells.shards ≡ c.cells.about.settings.shards) × (c.cells.callers ≡ c.cells.about.callers) × (c.cells.about.settings.change_limit < 2 ^ 63) };
+    ghost invariant = { λ c. (c.cells.shards ≡ c.cells.about.settings.shards) × (c.cells.callers ≡ c.cells.about.callers) × (c.cells.about.settings.change_limit < 2 ^ 63) × (c.first_only ≡ c.cells.about.first_only) };
 }
 
 impl<W: Indexed, R: Wait> Cells<W, R> {
@@ -80,6 +81,13 @@ impl<W: Indexed, R: Wait> Cells<W, R> {
 }
 
 impl<W: Indexed, R> Cells<W, R> {
+    /// Whether only the first caller accepts changes.
+    pub fn first_only(&self) -> bool
+        ensures { result ≡ self.now.about.first_only }
+    {
+        self.first_only
+    }
+
     /// Puts the board back, after at most one event. The pass has then seen that, too.
     pub fn leave_board(&self, board: Board<W>, pass: &mut Pass<W>)
         ghost event: { Option Happened }
@@ -187,6 +195,6 @@ impl<W: Indexed, R> Cells<W, R> {
             first_only,
         };
         let (cells, pass) = cq_cells::Cells::new(rt, alloc, &about, board, shards)?;
-        Ok((Cells { cells }, pass))
+        Ok((Cells { cells, first_only }, pass))
     }
 }

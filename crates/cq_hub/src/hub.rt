@@ -35,13 +35,9 @@ pub trait Hub<W: Indexed> {
     // The pass is one of this hub's and of the caller with this number, holds nothing of it, and has seen this history.
     ghost Stands: { Self → Self.Pass → ℕ → List Event → Type 0 };
 
-    // changes may be accepted by this pass
-    ghost MayAccept: { Self → Self.Pass → Type 0 };
-
     /// Accepts a change, and answers its number, or the first cause against it.
     fn accept(&self, alloc: Global, change: Change, pass: &mut Self::Pass) -> Result<u64, Refused>
         requires stands { IsPassOf Stands self.now pass.old }
-        requires may { MayAccept self.now pass.old }
         requires sound { IsSoundChange change }
         ensures accepted { IfOk result
             (Accepts Stands alone settings callers self.now pass.old pass.new change) }

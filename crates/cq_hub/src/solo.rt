@@ -85,8 +85,6 @@ impl<W: Indexed> Hub<W> for Solo<W> {
 
     ghost Stands = { SoloStands W.keys_in W.IsWorkOf };
 
-    ghost MayAccept = { λ hub pass. Unit {0} };
-
     ghost lawful = { λ hub pass c h is. stands_lawful W.keys_in W.IsWorkOf hub pass c h is };
 
     ghost sound = { λ hub pass c h is. stands_sound W.keys_in W.IsWorkOf hub pass c h is };

@@ -1,6 +1,6 @@
 ghost use Rattle.std.specs.Prelude.{◌≡◌, ◌+◌, ◌≤◌, vec_len, All, IsSome, IfOk, OnErr};
 ghost use Rattle.cq_base.specs.Settings.{IsInRange};
-ghost use Rattle.cq_shared.specs.SharedPasses.{AnyAccepts, settings_of};
+ghost use Rattle.cq_shared.specs.SharedPasses.{settings_of};
 ghost use Rattle.cq_listen.specs.Endings.{HasEnded, IsServedWith};
 ghost use Rattle.cq_listen.specs.Seats.{IsIdle};
 
@@ -216,7 +216,6 @@ pub fn serve<
 ) -> Result<Served, Memory>
     requires in_range { IsInRange settings.now }
     requires settings { settings_of hub.now ≡ settings.now }
-    requires accepts { AnyAccepts hub.now }
     requires idle { IsIdle hub.now pass }
     requires room { workers + sessions ≤ pass.room }
     requires bound { IsSome (D.bound doors.old) }

@@ -15,10 +15,6 @@ abbrev pub itself : ℕ → ℕ
 itself c = c
 
 module _ {H W P : Type 0} (of : Ghosts H W P) (hub : H) where
-  -- each pass may accept changes
-  abbrev pub EachMayAccept : Type 0
-  EachMayAccept = (pass : P) → of.MayAccept hub pass
-
   module _ (old new : P) where
     -- the change was accepted, as this number, by the caller who accepts what this one sends
     abbrev pub AcceptsBy : (ℕ → ℕ) → Change → ℕ → Type 0

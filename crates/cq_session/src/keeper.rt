@@ -70,11 +70,11 @@ pub trait Keeper<W: Indexed, H: Hub<W>> {
 pub struct NoLog;
 
 impl<W: Indexed, H: Hub<W>> Keeper<W, H> for NoLog {
-    ghost use Rattle.cq_session.specs.Keeping.{itself, EachMayAccept};
+    ghost use Rattle.cq_session.specs.Keeping.{itself};
 
     ghost acceptor = { λ keeper. itself };
 
-    ghost Keeps = { λ keeper hub. EachMayAccept H.Hub hub };
+    ghost Keeps = { λ keeper hub. Unit {0} };
 
     ghost Breaks = { λ keeper. ⊥ };
 

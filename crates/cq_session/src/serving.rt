@@ -8,7 +8,7 @@ ghost use Rattle.cq_lines.specs.Serving.{HasCauseOfEnd};
 ghost use Rattle.cq_reply.specs.Written.{line_of};
 ghost use Rattle.cq_reply.specs.declared.reply.Reply.TheVariants as reply;
 ghost use Rattle.cq_talk.specs.Steps.{Always, MayLead};
-ghost use Rattle.cq_session.specs.Keeping.{EachMayAccept, itself};
+ghost use Rattle.cq_session.specs.Keeping.{itself};
 ghost use Rattle.cq_session.specs.Overs.{HasCauseOfOver, HasSent, HasServedOrBroken};
 ghost use Rattle.cq_session.specs.Passes.{HasAccepted, HasServed};
 ghost use Rattle.cq_session.specs.declared.serving.Over.TheVariants as over;
@@ -148,7 +148,7 @@ pub fn kept_session<
     }
 }
 
-/// Answers the lines of a source, as `kept_session` does, by a hub of which each caller may accept changes, and keeps none.
+/// Answers the lines of a source, as `kept_session` does, and keeps none: each change is accepted by its caller.
 pub fn session<R: Threads + Sync, L: Ledger, H: Hub<Work<L>>, S: Source, K: Sink, G: Gate>(
     rt: &R,
     alloc: Global,
@@ -166,7 +166,6 @@ pub fn session<R: Threads + Sync, L: Ledger, H: Hub<Work<L>>, S: Source, K: Sink
     requires in_range { IsInRange settings.now }
     requires settings { keyer.now.settings ≡ settings.now }
     requires hub_settings { H.settings hub.now ≡ settings.now }
-    requires accepts { EachMayAccept H.Hub hub.now }
     requires closed { MayLead H.Stands (H.callers hub.now) hub.now pass.old Always }
     ensures served { HasServed H.Hub hub.now pass.old pass.new steps.old steps.new itself
         S.Source K.Sink settings.now

@@ -73,8 +73,13 @@ impl<W: Indexed, R: Wait> Shared<W, R> {
         asked
     }
 
-    /// Accepts a change, and answers its number, or the first cause against it.
-    pub fn accept(&self, alloc: Global, change: Change, pass: &mut Pass<W>) -> Result<u64, Refused>
+    // Accepts a change by a caller who may.
+    fn accept_allowed(
+        &self,
+        alloc: Global,
+        change: Change,
+        pass: &mut Pass<W>,
+    ) -> Result<u64, Refused>
         requires of { IsPassOf self.now pass.old }
         requires may { MayAccept self.now pass.old }
         requires sound { IsSoundChange change }
@@ -95,6 +100,28 @@ impl<W: Indexed, R: Wait> Shared<W, R> {
                 Err(cause)
             }
         }
+    }
+
+    // Whether the pass may accept changes.
+    fn may_accept(&self, pass: &Pass<W>) -> bool
+        ensures { OnTrue result (MayAccept self.now pass.now) }
+    {
+        !self.cells.first_only() || pass.by() == 0
+    }
+
+    /// Accepts a change, and answers its number, or the first cause against it. If only the first caller may accept changes,
+    /// every other caller is answered that memory is refused.
+    pub fn accept(&self, alloc: Global, change: Change, pass: &mut Pass<W>) -> Result<u64, Refused>
+        requires of { IsPassOf self.now pass.old }
+        requires sound { IsSoundChange change }
+        ensures accepted { IfOk result (Accepts self.now pass.old pass.new change) }
+        ensures refused { IfErr result (Refuses self.now pass.old pass.new change) }
+        ensures asked { pass.new.asked ≡ pass.old.asked }
+    {
+        if self.may_accept(pass) {
+            return self.accept_allowed(alloc, change, pass);
+        }
+        Err(Refused::Memory)
     }
 
     /// Gives the caller the first change that is neither done nor taken, if there is one.

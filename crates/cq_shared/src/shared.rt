@@ -5,7 +5,7 @@ ghost use Rattle.cq_cells.specs.Steps.{AreOneHistory};
 ghost use Rattle.cq_chain.specs.Passes.{IsOwn, HasNoneFrom};
 ghost use Rattle.cq_hub.specs.Answers.{HasViewOpen, Shuts};
 ghost use Rattle.cq_shared.specs.Answers.{HasSeenItsWork, ExtendsByDone, ExtendsWhereDone};
-ghost use Rattle.cq_shared.specs.SharedPasses.{IsPassOf, AnyAccepts, OnlyFirstAccepts, SharedStands, cells_of, settings_of, callers_of, asked_by};
+ghost use Rattle.cq_shared.specs.SharedPasses.{IsPassOf, OnlyFirstAccepts, SharedStands, cells_of, settings_of, callers_of, asked_by};
 
 use cq_base::{Change, Entry, Memory, Settings};
 use cq_board::{Asked, Board, Finished, Job, Refused, View};
@@ -26,7 +26,7 @@ pub struct Shared<W: Indexed, R> {
     pub(crate) swept: AtomicU64,
 }
 
-// A hub before any event, whose changes any caller accepts or only the first, and the pass of the first caller.
+// A hub before any event, and the pass of the first caller, who may be the only one that accepts changes.
 fn made<W: Indexed, R>(
     rt: R,
     alloc: Global,
@@ -74,14 +74,13 @@ impl<W: Indexed, R> Shared<W, R> {
         ensures stands { IfOk result (λ made. SharedStands made.0 made.1 0 []) }
         ensures settings { IfOk result (λ made. settings_of made.0 ≡ settings.now) }
         ensures callers { IfOk result (λ made. callers_of made.0 ≡ callers) }
-        ensures accepts { IfOk result (λ made. AnyAccepts made.0) }
         ensures room { IfOk result (λ made. (made.1.next ≡ 1) × (made.1.room ≡ callers - 1)) }
         ensures asked { IfOk result (λ made. made.1.asked ≡ 0) }
     {
         made(rt, alloc, settings, callers, false)
     }
 
-    /// The same, but only the first caller may accept changes: it has then seen each acceptance.
+    /// The same, but only the first caller may accept changes. So its pass has seen each acceptance.
     pub fn with_first_accepting(
         rt: R,
         alloc: Global,
@@ -155,7 +154,7 @@ impl<W: Indexed, R> Shared<W, R> {
 }
 
 impl<W: Indexed, R: Wait> Hub<W> for Shared<W, R> {
-    ghost use Rattle.cq_shared.specs.SharedPasses.{settings_of, callers_of, asked_by, MayAccept, SharedStands, shared_lawful, shared_sound, shared_caller};
+    ghost use Rattle.cq_shared.specs.SharedPasses.{settings_of, callers_of, asked_by, SharedStands, shared_lawful, shared_sound, shared_caller};
 
     type Pass = Pass<W>;
 
@@ -168,8 +167,6 @@ impl<W: Indexed, R: Wait> Hub<W> for Shared<W, R> {
     ghost asked = { asked_by };
 
     ghost Stands = { SharedStands };
-
-    ghost MayAccept = { MayAccept };
 
     ghost lawful = { λ hub pass c h is. shared_lawful hub pass c h is };
 

@@ -9,6 +9,7 @@ use cq_chain::Pass;
 use cq_io::OpenGate;
 use cq_lines::End;
 use cq_serve::{Turn, turn};
+use cq_session::NoLog;
 use cq_shared::Shared;
 use cq_stage::{Client, ClientSource, Hold, Late, LogSink, Scene, Stage, Until, Who};
 use cq_work::{Keyer, Work};
@@ -50,7 +51,7 @@ fn turned<Q: Wait + Clock, L: Ledger, R: Wait>(
         hold: Hold::Works(1, Until::Told(0, UPLOADED.len())),
     };
     stage.wait(Who::Worker(1), Until::Told(0, 0));
-    Ok(turn(alloc, settings, &keyer, hub, &mut pass, &gate))
+    Ok(turn(alloc, settings, &keyer, hub, &NoLog, &mut pass, &gate))
 }
 
 /// What the session and the turn came to.

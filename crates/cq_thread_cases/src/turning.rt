@@ -8,6 +8,7 @@ use cq_board::Refused;
 use cq_hub::{Hub, Solo, SoloPass};
 use cq_io::{Gate, OpenGate};
 use cq_serve::{Bell, RingingGate, Turn, turn};
+use cq_session::NoLog;
 use cq_work::{Keyer, Work};
 use std::alloc::Global;
 use std::marker::Brand;
@@ -53,8 +54,8 @@ fn two_turns<L: Ledger, H: Hub<Work<L>>>(
     requires stands { IsPassOf H.Stands hub.now pass.old }
 {
     hub.accept(alloc, change, pass)?;
-    let first = turn(alloc, settings, keyer, hub, pass, &OpenGate);
-    let second = turn(alloc, settings, keyer, hub, pass, &OpenGate);
+    let first = turn(alloc, settings, keyer, hub, &NoLog, pass, &OpenGate);
+    let second = turn(alloc, settings, keyer, hub, &NoLog, pass, &OpenGate);
     let asked = hub.ask(pass);
     Ok((first, second, asked.done, asked.published))
 }

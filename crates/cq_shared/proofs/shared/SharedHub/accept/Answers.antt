@@ -3,7 +3,7 @@ use Rattle.cq_shared.proofs.Calling.{extends}
 use Rattle.cq_shared.proofs.shared.SharedHub.accept.Goals as goal
 
 pub accept-requires : goal.accept-requires
-accept-requires g c = record { of = c.requires.stands.2.is; may = c.requires.may; sound = c.requires.sound }
+accept-requires g c = record { of = c.requires.stands.2.is; sound = c.requires.sound }
 
 pub returns-clause-accepted : goal.returns-clause-accepted
 returns-clause-accepted g c = IfOk-weaker c.accept.result _ _ (λ number call. extends _ _ _ _ _ _ call) c.accept.ensures.accepted
