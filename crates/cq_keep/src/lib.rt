@@ -4,5 +4,7 @@
 #![tactic(auto)]
 
 mod line_log;
+mod unkept;
 
 pub use line_log::{LineLog, send_line};
+pub use unkept::Unkept;

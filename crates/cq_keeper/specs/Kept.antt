@@ -1,33 +1,38 @@
 -- What a log has, by what the first caller has seen.
-use Rattle.std.specs.Prelude.{◌≡◌, ◌⊎◌, ℕ, ◌<◌, true, false, List, [], ◌∷◌, ◌++◌, drop, flat_map, length, Option, Some, Ok}
+use Rattle.std.specs.Prelude.{◌≡◌, ℕ, ◌≤◌, true, false, List, [], ◌∷◌, ◌++◌, drop, flat_map, length, Option, Ok}
 use Rattle.std.specs.Io.KnownBytes.{Appends}
 use Rattle.cq_base.specs.declared.change.Change.{Change}
 use Rattle.cq_cells.specs.Passes.{IsFree, by_of}
 use Rattle.cq_chain.specs.Passes as chain
 use Rattle.cq_chain.specs.Passes.{BoardCells, BoardPass}
-use Rattle.cq_history.specs.declared.event.Event.TheVariants as event
 use Rattle.cq_history.specs.State.{accepted}
-use Rattle.cq_hub.specs.Says.{IsAcceptedAs}
+use Rattle.cq_io.specs.Causes.{Rose}
 use Rattle.cq_io.specs.declared.sink.Sink as sink
 use Rattle.cq_keep.specs.declared.line_log.LineLog.{LineLog}
+use Rattle.cq_keep.specs.declared.unkept.Unkept.{Unkept}
+use Rattle.cq_keep.specs.declared.unkept.Unkept.TheVariants as unkept
+use Rattle.cq_keeper.specs.Firsts as firsts
 use Rattle.cq_keeper.specs.declared.naming.LogOf as log_of
 use Rattle.cq_lines.specs.Pieces.{HasNoFeed, ended}
 use Rattle.cq_request.specs.Reading.{line_says}
 use Rattle.cq_request.specs.declared.request.Request.TheVariants as request
-use Rattle.cq_shared.specs.Calls.{Calls}
-use Rattle.cq_shared.specs.SharedPasses.{callers_of, settings_of}
 use Rattle.cq_shared.specs.declared.shared.Shared.{Shared}
 
 -- whoever sends a change, the first caller accepts it
 abbrev pub first_caller : ℕ → ℕ
 first_caller c = 0
 
--- each line says its change, in lines of this chunk
+-- a line of this chunk says the change
+pub record Says (chunk : ℕ) (line : List ℕ) (change : Change) : Type 0 where
+  pub says : line_says chunk line ≡ Ok (request.Change change)
+  pub no_feed : HasNoFeed line
+
+-- each line says its change
 abbrev pub SayAll : ℕ → List (List ℕ) → List Change → Type 0
 SayAll chunk [] [] = Unit {0}
 SayAll chunk [] (change ∷ changes) = ⊥
 SayAll chunk (line ∷ lines) [] = ⊥
-SayAll chunk (line ∷ lines) (change ∷ changes) = (line_says chunk line ≡ Ok (request.Change change)) × HasNoFeed line × SayAll chunk lines changes
+SayAll chunk (line ∷ lines) (change ∷ changes) = Says chunk line change × SayAll chunk lines changes
 
 module _ {K N : Type 0} (onto : sink.Ghosts K) (of : log_of.Ghosts N) where
   -- the changes that were accepted since the log began, as far as the pass has seen
@@ -48,12 +53,12 @@ module _ {K N : Type 0} (onto : sink.Ghosts K) (of : log_of.Ghosts N) where
     pub lines : List (List ℕ)
     pub say : SayAll of.cells.about.settings.chunk lines first
     pub line : List ℕ
-    pub says : line_says of.cells.about.settings.chunk line ≡ Ok (request.Change last)
+    pub says : Says of.cells.about.settings.chunk line last
     pub front : List ℕ
     pub more : List ℕ
     pub line_is : front ++ more ≡ ended line
     pub written : Appends of.begun (onto.written log.sink) (flat_map ended lines ++ front)
-    pub rose : of.faults < onto.faults log.sink
+    pub rose : Rose of.faults (onto.faults log.sink)
 
   -- The pass is that of the first caller of the cells, who alone accepts changes, so it has seen each acceptance. If each line
   -- was written whole, the log has the lines of the changes that were accepted since it began, and else a front of these.
@@ -62,12 +67,14 @@ module _ {K N : Type 0} (onto : sink.Ghosts K) (of : log_of.Ghosts N) where
     pub free : IsFree p
     pub caller : by_of p ≡ 0
     pub only : of.cells.about.first_only ≡ true
+    pub begun : of.taken ≤ length (accepted p.seen)
     pub whole : log.whole ≡ true → HasLines log (accepted_since p) × (onto.faults log.sink ≡ of.faults)
     pub cut_off : log.whole ≡ false → IsCutOff log (accepted_since p)
 
--- the change was accepted by the first caller as this number, which the pass has then seen
-abbrev pub AcceptsByFirst : {W R : Type 0} → Shared W R → BoardPass → BoardPass → Change → ℕ → Type 0
-AcceptsByFirst hub p q change number = Calls hub p q (event.Accept 0 change ∷ []) (IsAcceptedAs (settings_of hub) (callers_of hub) change number)
+-- the change was not accepted, for this cause; or nobody is told whether it was
+abbrev pub RefusesKept : {W R : Type 0} → Shared W R → BoardPass → BoardPass → Change → Unkept → Type 0
+RefusesKept hub p q change (unkept.Refused cause) = firsts.Refuses hub p q change cause
+RefusesKept hub p q change unkept.Broken = firsts.SeesMore hub p q
 
 -- no cells: what a log is of until somebody picks it
 abbrev pub no_cells : BoardCells

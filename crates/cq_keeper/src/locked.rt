@@ -1,22 +1,18 @@
-ghost use Rattle.std.specs.Prelude.{◌≡◌, ◌<◌, true, false, Ok, Err, drop, length, IfOk, IfErr, IfSome, IsNone};
+ghost use Rattle.std.specs.Prelude.{◌≡◌, true, false, Err, IfOk, IfErr, IfSome, IsNone};
 ghost use Rattle.cq_base.specs.Changes.{IsSoundChange};
-ghost use Rattle.cq_history.specs.State.{accepted};
-ghost use Rattle.cq_hub.specs.Answers.{IsTold};
-ghost use Rattle.cq_keeper.specs.Kept.{AcceptsByFirst, IsLogOf};
-ghost use Rattle.cq_lines.specs.Pieces.{HasNoFeed};
-ghost use Rattle.cq_request.specs.Reading.{line_says};
-ghost use Rattle.cq_request.specs.declared.request.Request.TheVariants as request;
-ghost use Rattle.cq_session.specs.Keeping.{RefusesKept};
-ghost use Rattle.cq_session.specs.declared.keeper.Unkept.TheVariants as unkept;
+ghost use Rattle.cq_keep.specs.declared.unkept.Unkept.TheVariants as unkept;
+ghost use Rattle.cq_keeper.specs.Firsts.{AcceptsByFirst};
+ghost use Rattle.cq_keeper.specs.Kept.{IsLogOf, RefusesKept, Says};
+ghost use Rattle.cq_shared.specs.Answers.{IsTold};
 ghost use Rattle.cq_shared.specs.SharedPasses.{IsPassOf, cells_of, settings_of};
 
+use crate::accepting::accept_by_first;
 use crate::naming::LogOf;
 use cq_base::Change;
 use cq_board::Asked;
 use cq_chain::Pass;
 use cq_io::{Failed, Sink};
-use cq_keep::LineLog;
-use cq_session::Unkept;
+use cq_keep::{LineLog, Unkept};
 use cq_shard::Indexed;
 use cq_shared::Shared;
 use std::alloc::Global;
@@ -76,11 +72,9 @@ impl<W: Indexed, K: Sink + Drop, N: LogOf> Locked<W, K, N> {
         requires keeps { cells_of hub.now ≡ N.cells }
         requires of { IsPassOf hub.now pass.old }
         requires sound { IsSoundChange change }
-        requires says { line_says (settings_of hub.now).chunk line.now
-            ≡ Ok (request.Change change) }
-        requires no_feed { HasNoFeed line.now }
-        ensures accepted { IfOk result
-            (AcceptsByFirst hub.now pass.old pass.new change) }
+        requires says { Says (settings_of hub.now).chunk line.now change }
+        ensures accepted { IfOk result (AcceptsByFirst hub.now pass.old pass.new change) }
+        ensures refused { IfErr result (RefusesKept hub.now pass.old pass.new change) }
         ensures kept { IfOk result (λ _. self.new.whole ≡ true) }
         ensures broken { result ≡ Err unkept.Broken → self.new.whole ≡ false }
         ensures asked { pass.new.asked ≡ pass.old.asked }
@@ -88,25 +82,19 @@ impl<W: Indexed, K: Sink + Drop, N: LogOf> Locked<W, K, N> {
         if !self.log.whole {
             return Err(Unkept::Broken);
         }
-        hub.level(&mut self.pass, pass);
-        match hub.accept(alloc, change, &mut self.pass) {
-            Ok(number) => {
-                hub.level(pass, &mut self.pass);
-                match self.log.keep(line) {
-                    Ok(()) => Ok(number),
-                    Err(Failed) => Err(Unkept::Broken),
-                }
-            }
-            Err(cause) => {
-                hub.level(pass, &mut self.pass);
-                Err(Unkept::Refused(cause))
-            }
+        match accept_by_first(hub, alloc, change, &mut self.pass, pass) {
+            Ok(number) => match self.log.keep(line) {
+                Ok(()) => Ok(number),
+                Err(Failed) => Err(Unkept::Broken),
+            },
+            Err(cause) => Err(Unkept::Refused(cause)),
         }
     }
 
     /// What a caller sees of the changes, each of which has its line; none if a line was not written whole.
     pub fn ask<R: Wait>(&self, hub: &Shared<W, R>, pass: &mut Pass<W>) -> Option<Asked>
         requires of { IsPassOf hub.now pass.old }
+        ensures told { IfSome result (IsTold hub.now pass.old pass.new) }
         ensures still { IsNone result → pass.new ≡ pass.old }
         ensures broken { IsNone result → self.now.whole ≡ false }
         ensures asked { pass.new.asked ≡ pass.old.asked }

@@ -1,8 +1,9 @@
 ghost use Rattle.std.specs.Prelude.{None};
 
+use crate::log::Log;
 use cq_base::Text;
 use cq_io::{Doors, Failed, Sink, Source};
-use cq_keeper::{Log, LogOf};
+use cq_keeper::LogOf;
 use cq_shard::Indexed;
 use std::sync::Wait;
 

@@ -6,6 +6,7 @@
 
 mod doors;
 mod lent;
+mod log;
 mod reloading;
 mod serving;
 

@@ -3,11 +3,11 @@ ghost use Rattle.cq_base.specs.Settings.{IsInRange};
 
 use crate::doors::KeptDoors;
 use crate::lent::Lent;
+use crate::log::Log;
 use crate::reloading::Reloaded;
 use cq_base::{Counters, Memory, Settings, Text};
 use cq_chain::Pass;
 use cq_io::{Doors, Failed, Gate, Sink, Source};
-use cq_keeper::Log;
 use cq_lines::Lines;
 use cq_listen::{Passes, Served, passes_of, serve_over};
 use cq_log::{Taken, mend, take_log};

@@ -10,13 +10,14 @@ ghost use Rattle.cq_session.specs.Keeping.{IsBroken};
 ghost use Rattle.cq_session.specs.Passes.{Begins, GivesUp, HasAccepted, HasAnswered, HasChanged, HasTold, HasWaited, Replies};
 
 use crate::helping::help;
-use crate::keeper::{Keeper, NoLog, Unkept};
+use crate::keeper::{Keeper, NoLog};
 use crate::viewing::view_reply;
 use cq_answer::refused_as;
 use cq_base::{Change, Memory, Settings, Steps};
 use cq_board::Refused;
 use cq_hub::Hub;
 use cq_io::Gate;
+use cq_keep::Unkept;
 use cq_reply::Reply;
 use cq_request::{Query, Request, read_request};
 use cq_shard::Indexed;

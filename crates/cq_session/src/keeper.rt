@@ -5,22 +5,14 @@ ghost use Rattle.cq_hub.specs.Hubs.{IsPassOf};
 ghost use Rattle.cq_request.specs.Reading.{line_says};
 ghost use Rattle.cq_request.specs.declared.request.Request.TheVariants as request;
 ghost use Rattle.cq_session.specs.Keeping.{AcceptsBy, RefusesKept};
-ghost use Rattle.cq_session.specs.declared.keeper.Unkept.TheVariants as unkept;
+ghost use Rattle.cq_keep.specs.declared.unkept.Unkept.TheVariants as unkept;
 
 use cq_base::Change;
-use cq_board::{Asked, Refused};
+use cq_board::Asked;
 use cq_hub::Hub;
+use cq_keep::Unkept;
 use cq_shard::Indexed;
 use std::alloc::Global;
-
-/// Why a change is not kept.
-#[derive(Clone, Copy, Debug, PartialEq, Eq)]
-pub enum Unkept {
-    /// It is not accepted, and this is the first cause.
-    Refused(Refused),
-    /// A line could not be written whole, that of this change or an earlier one. No change is accepted any more.
-    Broken,
-}
 
 /// Who accepts the changes of sessions, and keeps the line of each before its reply is written.
 pub trait Keeper<W: Indexed, H: Hub<W>> {

@@ -20,6 +20,6 @@ mod viewing;
 
 pub use answering::query_reply;
 pub use buckets::PassBuckets;
-pub use keeper::{Keeper, NoLog, Unkept};
+pub use keeper::{Keeper, NoLog};
 pub use project::keep;
 pub use serving::{Over, kept_session, session};

@@ -1,14 +1,13 @@
 ghost use Rattle.std.specs.Prelude.{true};
 ghost use Rattle.cq_keeper.specs.Kept.{IsLogOf};
 
-use crate::locked::Locked;
-use crate::naming::LogOf;
 use cq_base::Change;
 use cq_board::Asked;
 use cq_chain::Pass;
 use cq_io::Sink;
-use cq_keep::LineLog;
-use cq_session::{Keeper, Unkept};
+use cq_keep::{LineLog, Unkept};
+use cq_keeper::{Locked, LogOf};
+use cq_session::Keeper;
 use cq_shard::Indexed;
 use cq_shared::Shared;
 use std::alloc::Global;
