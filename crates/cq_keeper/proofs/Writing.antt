@@ -13,9 +13,10 @@ use Rattle.cq_history.specs.State.{accepted}
 use Rattle.cq_io.specs.Causes.{Rose}
 use Rattle.cq_io.specs.declared.sink.Sink as sink
 use Rattle.cq_keep.specs.LineLogs.{KeepsLine, BreaksOff}
+use Rattle.cq_keep.specs.Saying.{Says}
 use Rattle.cq_keep.specs.declared.line_log.LineLog.{LineLog}
 use Rattle.cq_keeper.specs.Firsts.{IsFirst, IsFirstAfter, IsFirstStill}
-use Rattle.cq_keeper.specs.Kept.{Says, SayAll, accepted_since, HasLines, IsCutOff, IsLogOf}
+use Rattle.cq_keeper.specs.Kept.{SayAll, accepted_since, HasLines, IsCutOff, IsLogOf}
 use Rattle.cq_keeper.specs.declared.naming.LogOf as log_of
 use Rattle.cq_lines.specs.Pieces.{ended}
 use Rattle.cq_shared.specs.SharedPasses.{IsPassOf, cells_of}

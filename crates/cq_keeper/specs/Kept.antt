@@ -1,5 +1,5 @@
 -- What a log has, by what the first caller has seen.
-use Rattle.std.specs.Prelude.{◌≡◌, ℕ, ◌≤◌, true, false, List, [], ◌∷◌, ◌++◌, drop, flat_map, length, Option, Ok}
+use Rattle.std.specs.Prelude.{◌≡◌, ℕ, ◌≤◌, true, false, List, [], ◌∷◌, ◌++◌, drop, flat_map, length, Option}
 use Rattle.std.specs.Io.KnownBytes.{Appends}
 use Rattle.cq_base.specs.declared.change.Change.{Change}
 use Rattle.cq_cells.specs.Passes.{IsFree, by_of}
@@ -8,24 +8,18 @@ use Rattle.cq_chain.specs.Passes.{BoardCells, BoardPass}
 use Rattle.cq_history.specs.State.{accepted}
 use Rattle.cq_io.specs.Causes.{Rose}
 use Rattle.cq_io.specs.declared.sink.Sink as sink
+use Rattle.cq_keep.specs.Saying.{Says}
 use Rattle.cq_keep.specs.declared.line_log.LineLog.{LineLog}
 use Rattle.cq_keep.specs.declared.unkept.Unkept.{Unkept}
 use Rattle.cq_keep.specs.declared.unkept.Unkept.TheVariants as unkept
 use Rattle.cq_keeper.specs.Firsts as firsts
 use Rattle.cq_keeper.specs.declared.naming.LogOf as log_of
-use Rattle.cq_lines.specs.Pieces.{HasNoFeed, ended}
-use Rattle.cq_request.specs.Reading.{line_says}
-use Rattle.cq_request.specs.declared.request.Request.TheVariants as request
+use Rattle.cq_lines.specs.Pieces.{ended}
 use Rattle.cq_shared.specs.declared.shared.Shared.{Shared}
 
 -- whoever sends a change, the first caller accepts it
 abbrev pub first_caller : ℕ → ℕ
 first_caller c = 0
-
--- a line of this chunk says the change
-pub record Says (chunk : ℕ) (line : List ℕ) (change : Change) : Type 0 where
-  pub says : line_says chunk line ≡ Ok (request.Change change)
-  pub no_feed : HasNoFeed line
 
 -- each line says its change
 abbrev pub SayAll : ℕ → List (List ℕ) → List Change → Type 0

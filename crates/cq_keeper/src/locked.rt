@@ -1,8 +1,9 @@
 ghost use Rattle.std.specs.Prelude.{◌≡◌, true, false, Err, IfOk, IfErr, IfSome, IsNone};
 ghost use Rattle.cq_base.specs.Changes.{IsSoundChange};
+ghost use Rattle.cq_keep.specs.Saying.{Says};
 ghost use Rattle.cq_keep.specs.declared.unkept.Unkept.TheVariants as unkept;
 ghost use Rattle.cq_keeper.specs.Firsts.{AcceptsByFirst};
-ghost use Rattle.cq_keeper.specs.Kept.{IsLogOf, RefusesKept, Says};
+ghost use Rattle.cq_keeper.specs.Kept.{IsLogOf, RefusesKept};
 ghost use Rattle.cq_shared.specs.Answers.{IsTold};
 ghost use Rattle.cq_shared.specs.SharedPasses.{IsPassOf, cells_of, settings_of};
 

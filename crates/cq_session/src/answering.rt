@@ -1,11 +1,11 @@
-ghost use Rattle.std.specs.Prelude.{◌≡◌, ◌≤◌, Ok as ok, None, IfOk, IfSome, IsNone, OnErr};
+ghost use Rattle.std.specs.Prelude.{◌≡◌, ◌≤◌, length, IfOk, IfSome, OnErr};
 ghost use Rattle.cq_answer.specs.Parts.{HasPath, HasScope};
 ghost use Rattle.cq_base.specs.Changes.{IsSoundChange};
 ghost use Rattle.cq_base.specs.Settings.{IsInRange};
 ghost use Rattle.cq_hub.specs.Hubs.{IsPassOf};
 ghost use Rattle.cq_reply.specs.Written.{IsReplyText};
-ghost use Rattle.cq_request.specs.Reading.{line_says};
-ghost use Rattle.cq_request.specs.declared.request.Request.TheVariants as request;
+ghost use Rattle.cq_keep.specs.Saying.{Says};
+ghost use Rattle.cq_lines.specs.Pieces.{HasNoFeed, line_limit};
 ghost use Rattle.cq_session.specs.Keeping.{IsBroken};
 ghost use Rattle.cq_session.specs.Passes.{Begins, GivesUp, HasAccepted, HasAnswered, HasChanged, HasTold, HasWaited, Replies};
 
@@ -39,7 +39,7 @@ fn change_reply<W: Indexed, H: Hub<W>, P: Keeper<W, H>, G: Gate>(
     requires keeps { P.Keeps keeper.now hub.now }
     requires stands { IsPassOf H.Stands hub.now pass.old }
     requires sound { IsSoundChange change }
-    requires says { line_says (H.settings hub.now).chunk line.now ≡ ok (request.Change change) }
+    requires says { Says (H.settings hub.now).chunk line.now change }
     ensures replies { IfOk result (λ reply. IfSome reply
         (HasChanged H.Hub hub.now pass.old pass.new (P.acceptor keeper.now) change)) }
     ensures text { IfOk result (λ reply. IfSome reply IsReplyText) }
@@ -218,6 +218,8 @@ pub(crate) fn reply_to<
     requires settings { keyer.now.settings ≡ settings.now }
     requires hub_settings { H.settings hub.now ≡ settings.now }
     requires keeps { P.Keeps keeper.now hub.now }
+    requires no_feed { HasNoFeed line.now }
+    requires short { length line.now ≤ line_limit }
     requires closed { HasAccepted H.Hub hub.now pass.old seen }
     ensures replies { IfOk result (λ reply. IfSome reply (Replies H.Hub hub.now pass.old pass.new
         steps.old steps.new seen (P.acceptor keeper.now) settings.now line.now)) }

@@ -1,11 +1,10 @@
-ghost use Rattle.std.specs.Prelude.{◌≡◌, ℕ, Ok, Err, IfOk, IfErr, IfSome, IsNone};
+ghost use Rattle.std.specs.Prelude.{◌≡◌, ℕ, Err, IfOk, IfErr, IfSome, IsNone};
 ghost use Rattle.cq_base.specs.Changes.{IsSoundChange};
 ghost use Rattle.cq_hub.specs.Answers.{IsTold};
 ghost use Rattle.cq_hub.specs.Hubs.{IsPassOf};
-ghost use Rattle.cq_request.specs.Reading.{line_says};
-ghost use Rattle.cq_request.specs.declared.request.Request.TheVariants as request;
-ghost use Rattle.cq_session.specs.Keeping.{AcceptsBy, RefusesKept};
+ghost use Rattle.cq_keep.specs.Saying.{Says};
 ghost use Rattle.cq_keep.specs.declared.unkept.Unkept.TheVariants as unkept;
+ghost use Rattle.cq_session.specs.Keeping.{AcceptsBy, RefusesKept};
 
 use cq_base::Change;
 use cq_board::Asked;
@@ -38,8 +37,7 @@ pub trait Keeper<W: Indexed, H: Hub<W>> {
         requires keeps { Keeps self.now hub.now }
         requires stands { IsPassOf H.Stands hub.now pass.old }
         requires sound { IsSoundChange change }
-        requires says { line_says (H.settings hub.now).chunk line.now
-            ≡ Ok (request.Change change) }
+        requires says { Says (H.settings hub.now).chunk line.now change }
         ensures accepted { IfOk result
             (AcceptsBy H.Hub hub.now pass.old pass.new (acceptor self.now) change) }
         ensures refused { IfErr result (RefusesKept H.Hub hub.now pass.old pass.new change) }

@@ -2,7 +2,7 @@ ghost use Rattle.std.specs.Prelude.{◌≡◌, ◌≤◌, false, length, IfOk};
 ghost use Rattle.cq_base.specs.Settings.{IsInRange};
 ghost use Rattle.cq_io.specs.Causes.{HasCause};
 ghost use Rattle.cq_io.specs.Sending.{Sends};
-ghost use Rattle.cq_lines.specs.Pieces.{line_limit};
+ghost use Rattle.cq_lines.specs.Pieces.{HasNoFeed, line_limit};
 ghost use Rattle.cq_lines.specs.Runs.{IsFresh};
 ghost use Rattle.cq_lines.specs.Serving.{HasCauseOfEnd};
 ghost use Rattle.cq_reply.specs.Written.{line_of};
@@ -45,6 +45,7 @@ fn turn<R: Threads + Sync, L: Ledger, H: Hub<Work<L>>, P: Keeper<Work<L>, H>, K:
     requires settings { keyer.now.settings ≡ settings.now }
     requires hub_settings { H.settings hub.now ≡ settings.now }
     requires keeps { P.Keeps keeper.now hub.now }
+    requires no_feed { HasNoFeed line.now }
     requires short { length line.now ≤ line_limit }
     requires closed { HasAccepted H.Hub hub.now pass.old seen.old }
     ensures turns { HasSent H.Hub hub.now pass.old pass.new steps.old steps.new

@@ -1,5 +1,6 @@
-ghost use Rattle.std.specs.Prelude.{◌≡◌, IfSome};
+ghost use Rattle.std.specs.Prelude.{◌≡◌, ◌≤◌, length, IfSome};
 ghost use Rattle.cq_base.specs.Settings.{IsInRange};
+ghost use Rattle.cq_lines.specs.Pieces.{HasNoFeed, line_limit};
 ghost use Rattle.cq_talk.specs.Replies.{named as named_in};
 ghost use Rattle.cq_session.specs.Keeping.{IsBroken};
 ghost use Rattle.cq_session.specs.Passes.{HasAccepted, HasLine, HasWaited};
@@ -49,6 +50,8 @@ pub(crate) fn told<R: Threads + Sync, L: Ledger, H: Hub<Work<L>>, P: Keeper<Work
     requires settings { keyer.now.settings ≡ settings.now }
     requires hub_settings { H.settings hub.now ≡ settings.now }
     requires keeps { P.Keeps keeper.now hub.now }
+    requires no_feed { HasNoFeed line.now }
+    requires short { length line.now ≤ line_limit }
     requires closed { HasAccepted H.Hub hub.now pass.old seen }
     ensures line { IfSome result (HasLine H.Hub hub.now pass.old pass.new
         steps.old steps.new seen (P.acceptor keeper.now) settings.now line.now) }
