@@ -1,5 +1,6 @@
 ghost use Rattle.std.specs.Prelude.{◌≡◌, ◌≤◌, IfOk, OnErr};
 ghost use Rattle.cq_base.specs.Settings.{IsInRange};
+ghost use Rattle.cq_serve_kept.specs.Continued.{EndsKept};
 
 use crate::doors::KeptDoors;
 use crate::lent::Lent;
@@ -115,6 +116,8 @@ pub fn serve_kept<
     requires in_range { IsInRange settings.now }
     requires workers { workers ≤ 64 }
     requires sessions { sessions ≤ 64 }
+    ensures log { IfOk result
+        (EndsKept S.Source K.Sink settings.now source.old source.new sink.old sink.new) }
 {
     // One caller is the log's, one the calling thread's, one each session's, and one each worker's.
     let callers = workers + sessions + 2;
