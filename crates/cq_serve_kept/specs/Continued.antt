@@ -9,9 +9,9 @@ use Rattle.cq_history.specs.State.{accepted}
 use Rattle.cq_io.specs.Causes.{Rose}
 use Rattle.cq_io.specs.declared.sink.Sink as sink
 use Rattle.cq_io.specs.declared.source.Source as source
-use Rattle.cq_lines.specs.Pieces.{all_lines, ended}
+use Rattle.cq_lines.specs.Pieces.{ended}
 use Rattle.cq_log.specs.Laws.{ContinueWith}
-use Rattle.cq_log.specs.Logs.{Front, held_in, held_by}
+use Rattle.cq_log.specs.Logs.{Front, held_by}
 use Rattle.cq_log.specs.Mending.{is_unclosed, mending}
 use Rattle.cq_serve_kept.specs.declared.serving.Kept.{Kept}
 use Rattle.cq_serve_kept.specs.declared.serving.Kept.TheVariants as kept
@@ -27,7 +27,7 @@ module _ {S K : Type 0} (from : source.Ghosts S) (onto : sink.Ghosts K) (set : S
     pub held : held_by set got ≡ Some front
     pub lines : List (List ℕ)
     pub changes : List Change
-    pub continue : ContinueWith set front.changes lines changes
+    pub continues : ContinueWith set front.changes lines changes
     pub some : List ℕ
     pub more : List ℕ
     pub parts : some ++ more ≡ mending (is_unclosed got) front.torn ++ flat_map ended lines
