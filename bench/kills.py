@@ -5,8 +5,8 @@ usage: bench/kills.py [--kills N] [--anew N] [--clients N] [--workers N] [--seco
 
 A server takes its log, and continues it: `cqd serve ADDRESS <kept.log >>kept.log`. Each client uploads and drops files, sets gates, and asks
 for files, in a project of its own and in one that all share. After a random time of at most --seconds the server is killed by SIGKILL. Half
-of the time the end of the log is then cut off at a random byte after the last line that a client was told of or shown, as a write that a
-crash cut short leaves it. Then the next server takes the same log. After --anew kills the log begins again.
+of the time the end of the log is then cut off at a random byte after the last line that a client was told of or shown, or a line is begun
+there, as a write that a crash cut short leaves it. Then the next server takes the same log. After --anew kills the log begins again.
 
 After each kill, what the log holds is computed by the rules of bench/log.py. Each change that was reported, by any server of this log, must be
 there as it was sent, under its number; each reply to a query must be what the changes up to its version give, and these must be there too.
@@ -196,7 +196,8 @@ def checked(log, told, shown):
 
 
 def cut_off(kept, told, shown, rng):
-    """Cuts the end off, after the last line that a client was told of or shown."""
+    """Leaves the log as a crash does in the middle of a write: its end is cut off after the last line that a client was told of or shown, or a
+    line is begun, if there is none after that."""
     log, at = kept.read_bytes(), 0
     last, number = max([0, *told, *(version for _project, version, _found in shown)]), 0
     while number < last:
@@ -207,9 +208,9 @@ def cut_off(kept, told, shown, rng):
         except ValueError:
             pass
         at = end
-    if at < len(log):
-        with open(kept, "r+b") as it:
-            it.truncate(rng.randrange(at, len(log) + 1))
+    if at == len(log):
+        log += json.dumps({"op": "put", "project": SHARED, "path": "cut", "lang": "any", "text": "x " * rng.randrange(100)}).encode()
+    kept.write_bytes(log[: rng.randrange(at, len(log))])
 
 
 def main():
