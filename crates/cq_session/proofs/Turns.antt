@@ -1,5 +1,5 @@
 -- One turn of a session.
-use Rattle.std.proofs.Common.{◌≡◌, ℕ, ◌+◌, ◌≤◌, List, [], ◌∷◌, ◌++◌, length, map, max, Option, true, refl, sym, ap, ◌∙◌, subst, arith}
+use Rattle.std.proofs.Common.{◌≡◌, ℕ, ◌+◌, ◌≤◌, List, [], ◌∷◌, ◌++◌, length, flat_map, map, max, Option, true, refl, sym, ap, ◌∙◌, subst, arith}
 use Rattle.std.proofs.lemmas.List.{map-append}
 use Rattle.std.specs.Io.KnownBytes.{Consumes, Appends, IsAtEnd}
 use Rattle.cq_base.specs.declared.settings.Settings.{Settings}
@@ -8,17 +8,19 @@ use Rattle.cq_history.specs.State.{accepted}
 use Rattle.cq_history.specs.Lawful.{Lawful}
 use Rattle.cq_lines.specs.Held.{Held}
 use Rattle.cq_lines.specs.Cutting.{IsNext}
-use Rattle.cq_lines.specs.Runs.{IsFresh}
+use Rattle.cq_lines.specs.Runs.{CutTo, IsFresh}
 use Rattle.cq_lines.specs.Serving.{RepliedSoFar, Serves}
 use Rattle.cq_lines.specs.declared.ending.End.TheVariants as end
 use Rattle.cq_lines.proofs.Serving.{replied_none, replied_more, write_failed}
+use Rattle.cq_lines.proofs.Whole.{cut_line, cut_whole}
 use Rattle.cq_reply.specs.declared.reply.Reply.{Reply}
 use Rattle.cq_reply.specs.Written.{line_of}
 use Rattle.cq_talk.specs.Replies.{named}
 use Rattle.cq_talk.specs.Said.{Said, said}
-use Rattle.cq_talk.specs.Talk.{AnswersBy}
+use Rattle.cq_talk.specs.Talk.{AnswersBy, Waits}
 use Rattle.cq_session.specs.Costs.{AreAllViewings, AreViewings, Counts, counted, Spends}
 use Rattle.cq_session.specs.Turn.{CountedTalkBy}
+use Rattle.cq_session.specs.Overs.{BrokenOff}
 use Rattle.cq_session.specs.Serving.{SeenTalk, SoFar}
 use Rattle.cq_talk.proofs.Talking.{named_few, seen_more}
 use Rattle.cq_session.proofs.Spending.{spends_none, spends_then, viewings_more}
@@ -63,6 +65,26 @@ module _ (set : Settings) (callers : ℕ) (alone : Type 0) (c by : ℕ) (h : Lis
     -- and a front of its reply was sent
     pub cut_off : (front more : List ℕ) → front ++ more ≡ line_of r → Appends w1 w2 front → Serves line_of (CountedTalkBy set callers alone c by h (counted reads reads_now asked asked_now) after) limit a d w0 w2 end.WriteFault
     cut_off front more parts sent = write_failed line_of Was Are limit a b d w0 w1 w2 x y got line r so.cut came taken within same going next (talk_then so.cut.lines so.cut.replied.replies) front more parts sent
+
+  -- from one history to another, a line was cut, and a line could not be kept
+  module _ (now after : List Event) (n : Counts) (limit seen : ℕ) (a b d w0 w1 w2 : Option (List ℕ)) (x y : Held) (got line : List ℕ) (so : SoFar set callers alone c by h n limit a b w0 w1 x seen now)
+      (came : Consumes b d got) (taken : y.taken ≡ x.taken + length got) (within : y.taken ≤ y.limit) (same : y.limit ≡ x.limit) (going : x.over ≡ true → ⊥) (next : IsNext (IsAtEnd d) (x.pending ++ got) line y) where
+    pub broken_off : Waits alone c now after → w2 ≡ w1 → BrokenOff set callers alone c by h limit a d w0 w2 after
+    broken_off waits nothing =
+        let cut_now : CutTo limit a d y (so.cut.lines ++ line ∷ []) = cut_line limit a b d x y so.cut.lines got line so.cut.cut came taken within same going next in
+        record {
+          got = cut_now.got;
+          bytes = cut_now.bytes;
+          within = let taken_now = cut_now.taken in let all = cut_now.within in let same_limit = cut_now.limited in omega (arith, taken_now, all, same_limit);
+          lines = so.cut.lines;
+          last = line;
+          whole = cut_whole limit a d y (so.cut.lines ++ line ∷ []) cut_now;
+          replies = so.cut.replied.replies;
+          then = now;
+          talk = so.cut.replied.talk.talk.talk;
+          written = subst (λ (w : Option (List ℕ)). Appends w0 w (flat_map line_of so.cut.replied.replies)) (sym nothing) so.cut.replied.written;
+          waits = waits;
+        }
 
   -- what was seen is left aside
   module _ (now : List Event) (n : Counts) (limit seen : ℕ) (a b w0 w1 : Option (List ℕ)) (x : Held) (so : SoFar set callers alone c by h n limit a b w0 w1 x seen now) where

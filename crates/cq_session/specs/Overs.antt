@@ -27,7 +27,7 @@ HasCauseOfOver from onto read read_now written written_now over.Unkept = (from.f
 
 -- the whole lines that came first have their replies, which were written, each whole and in order; the last line has none, and none of the
 -- caller's events came of it
-pub record BrokenOff (set : Settings) (callers : ℕ) (alone : Type 0) (c by : ℕ) (h : List Event) (n : Counts) (limit : ℕ) (rest rest_now before written_now : Option (List ℕ)) (after : List Event) : Type 0 where
+pub record BrokenOff (set : Settings) (callers : ℕ) (alone : Type 0) (c by : ℕ) (h : List Event) (limit : ℕ) (rest rest_now before written_now : Option (List ℕ)) (after : List Event) : Type 0 where
   pub got : List ℕ
   pub bytes : Consumes rest rest_now got
   pub within : length got ≤ limit
@@ -36,7 +36,7 @@ pub record BrokenOff (set : Settings) (callers : ℕ) (alone : Type 0) (c by : �
   pub whole : AreWhole limit rest_now got (lines ++ last ∷ [])
   pub replies : List Reply
   pub then : List Event
-  pub talk : turn.CountedTalkBy set callers alone c by h n then lines replies
+  pub talk : turn.IsTalkBy set callers alone c by h then lines replies
   pub written : Appends before written_now (flat_map line_of replies)
   pub waits : Waits alone c then after
 
@@ -58,4 +58,4 @@ module _ {H W P : Type 0} (of : Ghosts H W P) (hub : H) (old new : P) (reads rea
   abbrev pub HasServedOrBroken : {S K : Type 0} → (ℕ → ℕ) → source.Ghosts S → sink.Ghosts K → Settings → ℕ → S → S → K → K → Over → Type 0
   HasServedOrBroken acceptor from onto set limit read read_now written written_now (over.Ended end) = HasServed of hub old new reads reads_now acceptor from onto set limit read read_now written written_now end
   HasServedOrBroken acceptor from onto set limit read read_now written written_now over.Unkept =
-      Led of.Stands (of.callers hub) hub old new Always (λ c h after. BrokenOff set (of.callers hub) of.alone c (acceptor c) h spent limit (from.rest read) (from.rest read_now) (onto.written written) (onto.written written_now) after)
+      Led of.Stands (of.callers hub) hub old new Always (λ c h after. BrokenOff set (of.callers hub) of.alone c (acceptor c) h limit (from.rest read) (from.rest read_now) (onto.written written) (onto.written written_now) after)
