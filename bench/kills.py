@@ -89,7 +89,7 @@ class Server:
         until = time.monotonic() + seconds
         while True:
             try:
-                one = socket.create_connection(self.address, 10)
+                one = socket.create_connection(self.address, seconds)
                 one.setsockopt(socket.IPPROTO_TCP, socket.TCP_NODELAY, 1)
                 return one
             except OSError:
