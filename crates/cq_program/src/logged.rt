@@ -1,10 +1,11 @@
 ghost use Rattle.std.specs.Prelude.{◌≡◌, ◌≤◌};
 ghost use Rattle.cq_base.specs.Settings.{IsInRange};
 
-use crate::status::{Exit, Status, status_of_served};
-use cq_base::{Counters, Memory};
+use crate::status::{Exit, Status, status_of, status_of_served};
+use cq_base::{Counters, Memory, Settings};
 use cq_io::{Doors, Gate, Sink, Source};
 use cq_serve_kept::{Kept, serve_kept};
+use cq_shorten::{Shortened, shorten};
 use cq_words::Listen;
 use std::alloc::Global;
 use std::marker::Brand;
@@ -117,5 +118,21 @@ pub(crate) fn serve_logged<
             status: Status::Memory,
             served: None,
         },
+    }
+}
+
+/// The status of the shortening of a log.
+pub(crate) fn shortened<S: Source, K: Sink>(
+    alloc: Global,
+    settings: &Settings,
+    source: &mut S,
+    sink: &mut K,
+) -> Status
+    requires in_range { IsInRange settings.now }
+{
+    match shorten(alloc, settings, source, sink) {
+        Ok(Shortened::Refused) => Status::LineRefused,
+        Ok(Shortened::Ended(end)) => status_of(end),
+        Err(Memory) => Status::Memory,
     }
 }

@@ -201,6 +201,8 @@ all_there verb.Export items = sym (map_some command.Export (export_made (setting
     ∙ with_text (is_there items param.Chunk) (is_there items param.Shards) (is_there items param.KeyBits) (is_there items param.ChangeLimit) (is_there items param.TextLimit) (is_there items param.ByteLimit) (is_some (text_from param.Project items)))
 all_there verb.Ask items = sym (map_some command.Ask (settings_from items) ∙ settings_there items
     ∙ no_last (is_there items param.Chunk) (is_there items param.Shards) (is_there items param.KeyBits) (is_there items param.ChangeLimit) (is_there items param.TextLimit) (is_there items param.ByteLimit))
+all_there verb.Shorten items = sym (map_some command.Shorten (settings_from items) ∙ settings_there items
+    ∙ no_last (is_there items param.Chunk) (is_there items param.Shards) (is_there items param.KeyBits) (is_there items param.ChangeLimit) (is_there items param.TextLimit) (is_there items param.ByteLimit))
 
 -- a positional's value is there only where its item is
 item_missing : (name : Word) (items : List Item) → has_item items name ≡ false → item_of name items ≡ None
@@ -214,6 +216,7 @@ placed : (v : Verb) (items : List Item) → cond (list_all (has_item items) (row
 placed verb.Run items = refl
 placed verb.Drive items = refl
 placed verb.Ask items = refl
+placed verb.Shorten items = refl
 placed verb.Listen items = there (has_item items (param_name param.Address)) refl
   where
     from_parts : Option Settings → Option Word → Option Command

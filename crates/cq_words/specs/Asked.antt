@@ -128,3 +128,4 @@ command_read verb.Drive entries = option_map command.Drive (settings_read entrie
 command_read verb.Make entries = option_map command.Make (make_made (number_read param.Number entries) (number_read param.Files entries))
 command_read verb.Export entries = option_map command.Export (export_made (settings_read entries) (text_read param.Project entries))
 command_read verb.Ask entries = option_map command.Ask (settings_read entries)
+command_read verb.Shorten entries = option_map command.Shorten (settings_read entries)

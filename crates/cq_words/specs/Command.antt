@@ -93,6 +93,7 @@ command_from verb.Drive items = option_map command.Drive (settings_from items)
 command_from verb.Make items = option_map command.Make (make_made (number_from param.Number items) (number_from param.Files items))
 command_from verb.Export items = option_map command.Export (export_made (settings_from items) (text_from param.Project items))
 command_from verb.Ask items = option_map command.Ask (settings_from items)
+command_from verb.Shorten items = option_map command.Shorten (settings_from items)
 
 -- what the words after a command's name give
 abbrev pub command_after : Verb → List Word → Option Command
@@ -112,6 +113,7 @@ connections_in (command.Drive settings) = None
 connections_in (command.Make make) = None
 connections_in (command.Export export) = None
 connections_in (command.Ask settings) = None
+connections_in (command.Shorten settings) = None
 
 abbrev pub connections_of : List Word → Option ℕ
 connections_of words = option_and_then connections_in (command_of words)
@@ -129,3 +131,4 @@ HasRanges (command.Drive settings) = IsInRange settings
 HasRanges (command.Make make) = make.files ≤ 10000
 HasRanges (command.Export export) = IsInRange export.settings × (is_project export.project ≡ true)
 HasRanges (command.Ask settings) = IsInRange settings
+HasRanges (command.Shorten settings) = IsInRange settings

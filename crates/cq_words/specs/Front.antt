@@ -74,3 +74,4 @@ are_places_given verb.Drive items = list_all (λ p. is_some (number_from p items
 are_places_given verb.Make items = list_all (λ p. is_some (number_from p items)) (positionals_of verb.Make)
 are_places_given verb.Export items = is_some (text_from param.Project items)
 are_places_given verb.Ask items = list_all (λ p. is_some (number_from p items)) (positionals_of verb.Ask)
+are_places_given verb.Shorten items = list_all (λ p. is_some (number_from p items)) (positionals_of verb.Shorten)

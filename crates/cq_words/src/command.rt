@@ -56,4 +56,6 @@ pub enum Command {
     Export(Export),
     /// A kept version, which the input begins with, asked by the lines after it.
     Ask(Settings),
+    /// The log that the input is, written with only the lines that its last version needs.
+    Shorten(Settings),
 }

@@ -192,6 +192,14 @@ fn ask_read(matches: &ArgMatches) -> Option<Command>
     Some(Command::Ask(settings))
 }
 
+fn shorten_read(matches: &ArgMatches) -> Option<Command>
+    ensures command { result ≡ spec.command_read verb.Shorten (entries_of matches.now) }
+    ensures in_range { IfSome result HasRanges }
+{
+    let settings = settings_read(matches)?;
+    Some(Command::Shorten(settings))
+}
+
 fn make_read(matches: &ArgMatches) -> Option<Command>
     ensures command { result ≡ spec.command_read verb.Make (entries_of matches.now) }
     ensures in_range { IfSome result HasRanges }
@@ -216,6 +224,7 @@ fn command_read(alloc: Global, verb: Verb, matches: &ArgMatches) -> Result<Optio
         Verb::Make => Ok(make_read(matches)),
         Verb::Export => export_read(alloc, matches),
         Verb::Ask => Ok(ask_read(matches)),
+        Verb::Shorten => Ok(shorten_read(matches)),
     }
 }
 

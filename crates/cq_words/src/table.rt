@@ -12,6 +12,7 @@ pub(crate) enum Verb {
     Make,
     Export,
     Ask,
+    Shorten,
 }
 
 /// What words give by an option or as a positional: a number, or the text of an address or of a project's name.
@@ -112,6 +113,9 @@ pub(crate) fn verb_named(word: &[u8]) -> Option<Verb>
     if word == b"ask".as_slice() {
         return Some(Verb::Ask);
     }
+    if word == b"shorten".as_slice() {
+        return Some(Verb::Shorten);
+    }
     None
 }
 
@@ -126,6 +130,7 @@ pub(crate) fn verb_name(verb: Verb) -> &'static str
         Verb::Make => "make",
         Verb::Export => "export",
         Verb::Ask => "ask",
+        Verb::Shorten => "shorten",
     }
 }
 
@@ -135,7 +140,7 @@ pub(crate) fn options_of(verb: Verb) -> &'static [Param]
     match verb {
         Verb::Run => &RUN_OPTIONS,
         Verb::Listen | Verb::Serve => &LISTEN_OPTIONS,
-        Verb::Drive | Verb::Export | Verb::Ask => &SETTINGS_OPTIONS,
+        Verb::Drive | Verb::Export | Verb::Ask | Verb::Shorten => &SETTINGS_OPTIONS,
         Verb::Make => &[],
     }
 }
@@ -144,7 +149,13 @@ pub(crate) fn flags_of(verb: Verb) -> &'static [Flag]
     ensures { result.now ≡ spec.flags_of verb }
 {
     match verb {
-        Verb::Run | Verb::Listen | Verb::Serve | Verb::Drive | Verb::Export | Verb::Ask => &FLAGS,
+        Verb::Run
+        | Verb::Listen
+        | Verb::Serve
+        | Verb::Drive
+        | Verb::Export
+        | Verb::Ask
+        | Verb::Shorten => &FLAGS,
         Verb::Make => &[],
     }
 }
@@ -154,7 +165,7 @@ pub(crate) fn positionals_of(verb: Verb) -> &'static [Param]
     ensures { result.now ≡ spec.positionals_of verb }
 {
     match verb {
-        Verb::Run | Verb::Drive | Verb::Ask => &[],
+        Verb::Run | Verb::Drive | Verb::Ask | Verb::Shorten => &[],
         Verb::Listen | Verb::Serve => &LISTEN_POSITIONALS,
         Verb::Make => &MAKE_POSITIONALS,
         Verb::Export => &EXPORT_POSITIONALS,

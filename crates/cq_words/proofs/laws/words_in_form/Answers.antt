@@ -14,6 +14,7 @@ both verb.Drive words items = (read_in_form (row_of verb.Drive) refl words items
 both verb.Make words items = (read_in_form (row_of verb.Make) refl words items, in_form_read (row_of verb.Make) refl words items)
 both verb.Export words items = (read_in_form (row_of verb.Export) refl words items, in_form_read (row_of verb.Export) refl words items)
 both verb.Ask words items = (read_in_form (row_of verb.Ask) refl words items, in_form_read (row_of verb.Ask) refl words items)
+both verb.Shorten words items = (read_in_form (row_of verb.Shorten) refl words items, in_form_read (row_of verb.Shorten) refl words items)
 
 pub returns : goal.returns
 returns c = both
