@@ -12,7 +12,7 @@ use cq_base::Settings;
 use cq_chain::Pass;
 use cq_io::Gate;
 use cq_serve::{Bell, work};
-use cq_session::Server;
+use cq_session::{NoLog, Server};
 use cq_shared::Shared;
 use cq_work::{Keyer, Work};
 use std::alloc::Global;
@@ -72,6 +72,7 @@ fn labour<Q: Wait, L: Ledger, R: Wait, G: Gate>(
         alloc,
         keyer: &keyer,
         hub,
+        keeper: &NoLog,
         gate,
     };
     work(rt, &server, pass, bell)

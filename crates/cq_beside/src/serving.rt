@@ -13,7 +13,7 @@ use cq_chain::Pass;
 use cq_io::{Gate, Sink, Source};
 use cq_lines::{End, Lines};
 use cq_serve::{Bell, RingingGate};
-use cq_session::{Server, session};
+use cq_session::{NoLog, Server, session};
 use cq_shared::Shared;
 use cq_work::{Keyer, Work};
 use std::alloc::Global;
@@ -81,6 +81,7 @@ impl<'a, L: Ledger, R: Wait, S: Source, K: Sink, G: Gate> Talker<L, R> for Servi
             alloc,
             keyer,
             hub,
+            keeper: &NoLog,
             gate,
         };
         let end = session(rt, &server, pass, lines, source, sink, steps);
@@ -113,7 +114,7 @@ pub fn serve_one<
     G: Gate + Sync,
 >(
     rt: &Q,
-    server: &Server<'_, Shared<Work<L>, R>, G>,
+    server: &Server<'_, Shared<Work<L>, R>, NoLog, G>,
     pass: Pass<Work<L>>,
     lines: &mut Lines,
     source: &mut S,

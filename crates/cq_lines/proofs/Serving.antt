@@ -1,5 +1,6 @@
 -- One more line that has its reply, and the ends of a run.
-use Rattle.std.proofs.Common.{◌≡◌, ℕ, ◌+◌, ◌≤◌, List, [], ◌∷◌, ◌++◌, length, flat_map, Option, true, sym, ap, ◌∙◌, append_assoc, subst, arith}
+use Rattle.std.proofs.Common.{◌≡◌, ℕ, ◌+◌, ◌≤◌, List, [], ◌∷◌, ◌++◌, length, flat_map, Option, Result, Ok, Err, true, sym, ap, ◌∙◌, append_assoc, subst, arith}
+use Rattle.std.specs.Prelude.{IfErr}
 use Rattle.std.proofs.KnownBytes.{Appends-nil, Appends-trans}
 use Rattle.std.proofs.lemmas.Grind.{flat_map-append}
 use Rattle.std.specs.Io.KnownBytes.{Consumes, Appends, IsAtEnd}
@@ -7,7 +8,9 @@ use Rattle.cq_lines.specs.Held.{Held}
 use Rattle.cq_lines.specs.Pieces.{closed_lines, all_lines}
 use Rattle.cq_lines.specs.Cutting.{IsNext, Cuts}
 use Rattle.cq_lines.specs.Runs.{CutTo, IsFresh}
-use Rattle.cq_lines.specs.Serving.{Replied, RepliedSoFar, PartReplied, ServedBy, Serves, StopsAt}
+use Rattle.cq_io.specs.declared.sink.Sink as sink
+use Rattle.cq_io.specs.declared.source.Source as source
+use Rattle.cq_lines.specs.Serving.{Replied, RepliedSoFar, PartReplied, ServedBy, Serves, ServesLinesUntil, StopsAt}
 use Rattle.cq_lines.specs.declared.lines.Cut.TheVariants as cut
 use Rattle.cq_lines.specs.declared.ending.End.{End}
 use Rattle.cq_lines.specs.declared.ending.End.TheVariants as end
@@ -141,11 +144,28 @@ module _ {R : Type 0} (line_of : R → List ℕ) {X : Type 0} (Holds : X → Typ
 
 -- ---- the same, where the answering may have stopped at a line
 
-module _ {R C : Type 0} (line_of : R → List ℕ) {X : Type 0} (Holds : X → Type 0) (Are : X → List (List ℕ) → List R → Type 0) (HasStopped : X → List (List ℕ) → List R → C → Type 0) where
-  abbrev StoppedBy : List (List ℕ) → List R → C → Type 0
-  StoppedBy lines replies cause = (x : X) × Holds x × HasStopped x lines replies cause
+module _ {S K : Type 0} (from : source.Ghosts S) (onto : sink.Ghosts K) {R C : Type 0} (line_of : R → List ℕ) where
+  -- where the replies are also of another kind
+  module _ (Was Are : List (List ℕ) → List R → Type 0) (WasStopped HasStopped : List (List ℕ) → List R → C → Type 0) (to : (lines : List (List ℕ)) (replies : List R) → Was lines replies → Are lines replies)
+      (to_stopped : (lines : List (List ℕ)) (replies : List R) (cause : C) → WasStopped lines replies cause → HasStopped lines replies cause) where
+    pub until_as : (limit : ℕ) (read read_now : S) (written written_now : K) (result : Result End C) → ServesLinesUntil from onto line_of Was WasStopped limit read read_now written written_now result → ServesLinesUntil from onto line_of Are HasStopped limit read read_now written written_now result
+    until_as limit read read_now written written_now (Ok by) is = serves_as line_of Was Are to limit (from.rest read) (from.rest read_now) (onto.written written) (onto.written written_now) by is
+    until_as limit read read_now written written_now (Err cause) is = record { got = is.got; bytes = is.bytes; within = is.within; lines = is.lines; whole = is.whole; replies = is.replies; stopped = to_stopped is.lines is.replies cause is.stopped; written = is.written }
 
-  pub stops_by : (limit : ℕ) (rest rest_now before written_now : Option (List ℕ)) (cause : C) → StopsAt line_of StoppedBy limit rest rest_now before written_now cause → (x : X) × Holds x × StopsAt line_of (HasStopped x) limit rest rest_now before written_now cause
-  stops_by limit rest rest_now before written_now cause is =
-      let (x, holds, stopped_so) = is.stopped in
-      (x, holds, record { got = is.got; bytes = is.bytes; within = is.within; lines = is.lines; whole = is.whole; replies = is.replies; stopped = stopped_so; written = is.written })
+  -- where they are by something that doesn't speak of lines
+  module _ {X : Type 0} (Holds : X → Type 0) (Are : X → List (List ℕ) → List R → Type 0) (HasStopped : X → List (List ℕ) → List R → C → Type 0) where
+    abbrev StoppedBy : List (List ℕ) → List R → C → Type 0
+    StoppedBy lines replies cause = (x : X) × Holds x × HasStopped x lines replies cause
+
+    pub until_by : (limit : ℕ) (read read_now : S) (written written_now : K) (result : Result End C) → ServesLinesUntil from onto line_of (λ lines replies. (x : X) × Holds x × Are x lines replies) StoppedBy limit read read_now written written_now result
+        → (x : X) × Holds x × ServesLinesUntil from onto line_of (Are x) (HasStopped x) limit read read_now written written_now result
+    until_by limit read read_now written written_now (Ok by) is = serves_by line_of Holds Are limit (from.rest read) (from.rest read_now) (onto.written written) (onto.written written_now) by is
+    until_by limit read read_now written written_now (Err cause) is =
+        let (x, holds, stopped_so) = is.stopped in
+        (x, holds, record { got = is.got; bytes = is.bytes; within = is.within; lines = is.lines; whole = is.whole; replies = is.replies; stopped = stopped_so; written = is.written })
+
+  -- what holds of a cause if it stopped
+  pub until_stops : (Was : List (List ℕ) → List R → Type 0) (HasStopped : List (List ℕ) → List R → C → Type 0) (Holds : C → Type 0) → ((lines : List (List ℕ)) (replies : List R) (cause : C) → HasStopped lines replies cause → Holds cause)
+      → (limit : ℕ) (read read_now : S) (written written_now : K) (result : Result End C) → ServesLinesUntil from onto line_of Was HasStopped limit read read_now written written_now result → IfErr result Holds
+  until_stops Was HasStopped Holds to limit read read_now written written_now (Ok by) is = tt
+  until_stops Was HasStopped Holds to limit read read_now written written_now (Err cause) is = to is.lines is.replies cause is.stopped

@@ -4,6 +4,10 @@ use Rattle.std.specs.Io.KnownBytes.{Appends}
 use Rattle.cq_io.specs.Sending.{Sends}
 use Rattle.cq_lines.specs.Pieces.{line_limit}
 
+-- a front of the piece was sent
+abbrev pub SendsFront : Option (List ℕ) → Option (List ℕ) → List ℕ → Type 0
+SendsFront before after piece = (front more : List ℕ) × (front ++ more ≡ piece) × Appends before after front
+
 -- over what answers, the bytes of a reply, how the answering may have begun, and that lines have these replies from such a
 -- beginning, between what it was then and what it is now
 module _ {A F R : Type 0} (line_of : R → List ℕ) (AreReplies : F → A → A → List (List ℕ) → List R → Type 0) where
@@ -25,8 +29,7 @@ module _ {A F R : Type 0} (line_of : R → List ℕ) (AreReplies : F → A → A
     AnswersOrStops old new line before after (Ok (Some cause)) =
         (from : F) (first : A) (lines : List (List ℕ)) (replies : List R) → AreReplies from first old lines replies → (more : List R) × HasStopped from first new (lines ++ line ∷ []) (replies ++ more) cause × Appends before after (flat_map line_of more)
     AnswersOrStops old new line before after (Err e) =
-        (from : F) (first : A) (lines : List (List ℕ)) (replies : List R) → AreReplies from first old lines replies
-        → (reply : R) × AreReplies from first new (lines ++ line ∷ []) (replies ++ reply ∷ []) × ((front more : List ℕ) × (front ++ more ≡ line_of reply) × Appends before after front)
+        (from : F) (first : A) (lines : List (List ℕ)) (replies : List R) → AreReplies from first old lines replies → (reply : R) × AreReplies from first new (lines ++ line ∷ []) (replies ++ reply ∷ []) × SendsFront before after (line_of reply)
 
 -- unless it stopped, it may be asked again
 abbrev pub StaysReady : {C E : Type 0} → Type 0 → Result (Option C) E → Type 0

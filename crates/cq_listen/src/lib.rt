@@ -11,9 +11,11 @@ mod benches;
 mod connection;
 mod doorway;
 mod listening;
+mod passes;
 mod queue;
 mod seats;
 mod sessions;
 mod workers;
 
-pub use listening::{Served, serve};
+pub use listening::{Passes, Served, serve, serve_over};
+pub use passes::passes_of;

@@ -1,4 +1,4 @@
-ghost use Rattle.std.specs.Prelude.{◌≡◌, ◌+◌, ◌≤◌, vec_len, All, IfOk, OnOk};
+ghost use Rattle.std.specs.Prelude.{◌≡◌, vec_len, All, IfOk};
 ghost use Rattle.cq_base.specs.Settings.{IsInRange};
 ghost use Rattle.cq_shared.specs.SharedPasses.{settings_of};
 ghost use Rattle.cq_listen.specs.Seats.{IsIdle};
@@ -9,7 +9,7 @@ use cq_base::{Counters, Memory, Settings};
 use cq_chain::Pass;
 use cq_io::{Gate, Sink, Source};
 use cq_lines::Lines;
-use cq_session::{Server, session};
+use cq_session::{Keeper, Server, kept_session};
 use cq_shared::Shared;
 use cq_work::{Keyer, Work};
 use std::alloc::Global;
@@ -21,17 +21,19 @@ use std::thread::Threads;
 /// What a thread of the sessions has of its own: a pass with no view open, and a cutter with the limit of the settings.
 /// Contracts see it as the settings of its hub.
 #[derive(Drop)]
-pub(crate) struct Seat<'a, L: Ledger, R, G> {
+pub(crate) struct Seat<'a, L: Ledger, R: Wait, P: Keeper<Work<L>, Shared<Work<L>, R>>, G> {
     alloc: Global,
     settings: &'a Settings,
     counters: &'a Counters<L>,
     hub: &'a Shared<Work<L>, R>,
+    keeper: &'a P,
     gate: &'a G,
     lines: Lines,
     pass: Pass<Work<L>>,
 }
 
-impl<'a, L: Ledger, R, G> Model for Seat<'a, L, R, G> {
+impl<'a, L: Ledger, R: Wait, P: Keeper<Work<L>, Shared<Work<L>, R>>, G> Model
+    for Seat<'a, L, R, P, G> {
     ghost use Rattle.cq_base.specs.declared.settings.Settings.{Settings as Told};
     ghost use Rattle.cq_listen.specs.Seats.{IsFurnished};
 
@@ -39,10 +41,11 @@ impl<'a, L: Ledger, R, G> Model for Seat<'a, L, R, G> {
 
     ghost view = { λ s. s.settings.now };
 
-    ghost invariant = { λ s. IsFurnished s.settings.now s.hub.now s.pass s.lines.limit };
+    ghost invariant = { λ s. IsFurnished s.settings.now s.hub.now s.pass s.lines.limit
+        × P.Keeps s.keeper.now s.hub.now };
 }
 
-impl<'a, L: Ledger, R, G> Seat<'a, L, R, G> {
+impl<'a, L: Ledger, R: Wait, P: Keeper<Work<L>, Shared<Work<L>, R>>, G> Seat<'a, L, R, P, G> {
     ghost use Rattle.std.specs.Prelude.{◌≡◌, IfOk};
     ghost use Rattle.cq_base.specs.Settings.{IsInRange};
     ghost use Rattle.cq_shared.specs.SharedPasses.{settings_of};
@@ -54,11 +57,13 @@ impl<'a, L: Ledger, R, G> Seat<'a, L, R, G> {
         settings: &'a Settings,
         counters: &'a Counters<L>,
         hub: &'a Shared<Work<L>, R>,
+        keeper: &'a P,
         gate: &'a G,
         pass: Pass<Work<L>>,
     ) -> Result<Self, Memory>
         requires in_range { IsInRange settings.now }
         requires settings { settings_of hub.now ≡ settings.now }
+        requires keeps { P.Keeps keeper.now hub.now }
         requires idle { IsIdle hub.now pass }
         ensures { IfOk result (λ seat. seat ≡ settings.now) }
     {
@@ -68,6 +73,7 @@ impl<'a, L: Ledger, R, G> Seat<'a, L, R, G> {
             settings,
             counters,
             hub,
+            keeper,
             gate,
             lines,
             pass,
@@ -76,12 +82,15 @@ impl<'a, L: Ledger, R, G> Seat<'a, L, R, G> {
 }
 
 // Serves a connection to its end, by a session on a seat. The keys are those of the keyer.
-fn converse<Q: Threads + Sync, L: Ledger, R: Wait, S: Source + Drop, K: Sink + Drop, G: Gate>(
-    rt: &Q,
-    keyer: &Keyer,
-    seat: &mut Seat<'_, L, R, G>,
-    connection: Connection<S, K>,
-)
+fn converse<
+    Q: Threads + Sync,
+    L: Ledger,
+    R: Wait,
+    P: Keeper<Work<L>, Shared<Work<L>, R>>,
+    S: Source + Drop,
+    K: Sink + Drop,
+    G: Gate,
+>(rt: &Q, keyer: &Keyer, seat: &mut Seat<'_, L, R, P, G>, connection: Connection<S, K>)
     requires { seat.old ≡ keyer.now.settings }
     ensures { seat.new ≡ seat.old }
 {
@@ -94,9 +103,10 @@ fn converse<Q: Threads + Sync, L: Ledger, R: Wait, S: Source + Drop, K: Sink + D
         alloc: seat.alloc,
         keyer,
         hub: seat.hub,
+        keeper: seat.keeper,
         gate: seat.gate,
     };
-    let _end = session(
+    let _over = kept_session(
         rt,
         &server,
         &mut seat.pass,
@@ -107,8 +117,15 @@ fn converse<Q: Threads + Sync, L: Ledger, R: Wait, S: Source + Drop, K: Sink + D
     );
 }
 
-impl<'a, L: Ledger, R: Wait, S: Source + Drop, K: Sink + Drop, G: Gate> Attendant<Connection<S, K>>
-    for Seat<'a, L, R, G> {
+impl<
+    'a,
+    L: Ledger,
+    R: Wait,
+    P: Keeper<Work<L>, Shared<Work<L>, R>>,
+    S: Source + Drop,
+    K: Sink + Drop,
+    G: Gate,
+> Attendant<Connection<S, K>> for Seat<'a, L, R, P, G> {
     ghost settings = { λ s. s };
 
     fn attend<Q: Threads + Sync>(&mut self, rt: &Q, keyer: &Keyer, connection: Connection<S, K>) {
@@ -116,29 +133,26 @@ impl<'a, L: Ledger, R: Wait, S: Source + Drop, K: Sink + Drop, G: Gate> Attendan
     }
 }
 
-/// So many seats, whose callers are the next ones of the pass.
-pub(crate) fn seats_of<'a, L: Ledger, R, G>(
+/// A seat for each of these passes.
+pub(crate) fn seats_of<'a, L: Ledger, R: Wait, P: Keeper<Work<L>, Shared<Work<L>, R>>, G>(
     alloc: Global,
     settings: &'a Settings,
     counters: &'a Counters<L>,
     hub: &'a Shared<Work<L>, R>,
+    keeper: &'a P,
     gate: &'a G,
-    pass: &mut Pass<Work<L>>,
-    number: u32,
-) -> Result<Vec<Seat<'a, L, R, G>>, Memory>
+    passes: Vec<Pass<Work<L>>>,
+) -> Result<Vec<Seat<'a, L, R, P, G>>, Memory>
     requires in_range { IsInRange settings.now }
     requires settings { settings_of hub.now ≡ settings.now }
-    requires idle { IsIdle hub.now pass.old }
-    requires room { number ≤ pass.old.room }
-    ensures idle { IsIdle hub.now pass.new }
-    ensures room { OnOk result (pass.new.room + number ≡ pass.old.room) }
-    ensures number { IfOk result (λ seats. vec_len seats ≡ number) }
+    requires keeps { P.Keeps keeper.now hub.now }
+    requires idle { All (IsIdle hub.now) passes.items }
+    ensures number { IfOk result (λ seats. vec_len seats ≡ vec_len passes) }
     ensures settings { IfOk result (λ seats. All (λ seat. seat ≡ settings.now) seats.items) }
 {
-    let mut seats = Vec::with_capacity(alloc, number as usize)?;
-    'seats: for _seat in 0..number {
-        let own = hub.split_pass(pass);
-        seats.push(Seat::new(alloc, settings, counters, hub, gate, own)?)?;
+    let mut seats = Vec::with_capacity(alloc, passes.len())?;
+    'seats: for own in passes {
+        seats.push(Seat::new(alloc, settings, counters, hub, keeper, gate, own)?)?;
     }
     Ok(seats)
 }

@@ -9,6 +9,8 @@ use Rattle.cq_lines.specs.declared.ending.End.{End}
 use Rattle.cq_lines.specs.declared.ending.End.TheVariants as end
 use Rattle.cq_listen.specs.Endings.{IsServedWith}
 use Rattle.cq_listen.specs.declared.listening.Served.{Served}
+use Rattle.cq_shorten.specs.declared.shortening.Shortened.{Shortened}
+use Rattle.cq_shorten.specs.declared.shortening.Shortened.TheVariants as shortened
 use Rattle.cq_tokask.specs.declared.kept.Asked.{Asked}
 use Rattle.cq_tokask.specs.declared.kept.Asked.TheVariants as kept
 use Rattle.cq_words.specs.declared.command.Listen.{Listen}
@@ -45,6 +47,11 @@ abbrev pub status_of_exported : Exported → Status
 status_of_exported exported.Refused = ended.LineRefused
 status_of_exported exported.TooLarge = ended.TooLarge
 status_of_exported (exported.Ended by) = status_of by
+
+-- the status of the shortening of a log
+abbrev pub status_of_shortened : Shortened → Status
+status_of_shortened shortened.Refused = ended.LineRefused
+status_of_shortened (shortened.Ended by) = status_of by
 
 -- the status of the serving of connections
 abbrev pub status_of_served : Served → Status

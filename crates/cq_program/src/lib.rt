@@ -4,6 +4,7 @@
 
 mod clients;
 mod laws;
+mod logged;
 mod program;
 mod status;
 mod workers;

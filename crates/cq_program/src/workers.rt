@@ -10,7 +10,7 @@ use cq_beside::serve_one;
 use cq_chain::Pass;
 use cq_io::{Gate, Sink, Source};
 use cq_lines::Lines;
-use cq_session::Server;
+use cq_session::{NoLog, Server};
 use cq_shared::Shared;
 use cq_words::Run;
 use cq_work::{Keyer, Work};
@@ -60,6 +60,7 @@ pub(crate) fn serve_with_workers<
                 alloc,
                 keyer: &keyer,
                 hub: &hub,
+                keeper: &NoLog,
                 gate,
             };
             let end = serve_one(rt, &server, pass, &mut lines, source, sink, workers, steps);

@@ -3,6 +3,7 @@ pub mod ProjectEntries
 pub mod Answered
 pub mod Spending
 pub mod LineCosts
+pub mod Waited
 pub mod Working
 pub mod ManyWorks
 pub mod OneView

@@ -5,4 +5,6 @@ pub mod Costs
 pub mod Viewing
 pub mod Turn
 pub mod Passes
+pub mod Keeping
+pub mod Overs
 pub mod Serving

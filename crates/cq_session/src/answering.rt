@@ -1,64 +1,130 @@
-ghost use Rattle.std.specs.Prelude.{◌≡◌, ◌≤◌, IfOk, OnErr};
+ghost use Rattle.std.specs.Prelude.{◌≡◌, ◌≤◌, length, IfOk, IfSome, OnErr};
 ghost use Rattle.cq_answer.specs.Parts.{HasPath, HasScope};
 ghost use Rattle.cq_base.specs.Changes.{IsSoundChange};
 ghost use Rattle.cq_base.specs.Settings.{IsInRange};
 ghost use Rattle.cq_hub.specs.Hubs.{IsPassOf};
+ghost use Rattle.cq_keep.specs.Saying.{Says};
+ghost use Rattle.cq_lines.specs.Pieces.{HasNoFeed, line_limit};
 ghost use Rattle.cq_reply.specs.Written.{IsReplyText};
+ghost use Rattle.cq_session.specs.Keeping.{IsBroken};
 ghost use Rattle.cq_session.specs.Passes.{Begins, GivesUp, HasAccepted, HasAnswered, HasChanged, HasTold, HasWaited, Replies};
 
-use crate::Server;
 use crate::helping::help;
 use crate::viewing::view_reply;
+use crate::{Keeper, NoLog, Server};
 use cq_answer::refused_as;
 use cq_base::{Change, Memory, Steps};
 use cq_board::Refused;
 use cq_hub::Hub;
 use cq_io::Gate;
+use cq_keep::Unkept;
 use cq_reply::Reply;
 use cq_request::{Query, Request, read_request};
 use cq_shard::Indexed;
 use cq_work::Work;
-use std::alloc::Global;
 use std::sync::ledger::Ledger;
 use std::thread::Threads;
 
-fn change_reply<W: Indexed, H: Hub<W>, G: Gate>(
-    alloc: Global,
-    hub: &H,
+// The reply to a change that a line says; none if its line could not be kept.
+fn change_reply<W: Indexed, H: Hub<W>, P: Keeper<W, H>, G: Gate>(
+    server: &Server<'_, H, P, G>,
     change: Change,
-    gate: &G,
+    line: &[u8],
     pass: &mut H::Pass,
-) -> Result<Reply, Memory>
-    requires stands { IsPassOf H.Stands hub.now pass.old }
+) -> Result<Option<Reply>, Memory>
+    requires keeps { P.Keeps server.now.keeper.now server.now.hub.now }
+    requires stands { IsPassOf H.Stands server.now.hub.now pass.old }
     requires sound { IsSoundChange change }
-    ensures replies { IfOk result (HasChanged H.Hub hub.now pass.old pass.new change) }
-    ensures text { IfOk result IsReplyText }
-    ensures refused { OnErr result (HasWaited H.Hub hub.now pass.old pass.new) }
+    requires says { Says (H.settings server.now.hub.now).chunk line.now change }
+    ensures replies { IfOk result (λ reply. IfSome reply
+        (HasChanged H.Hub server.now.hub.now pass.old pass.new (P.acceptor server.now.keeper.now) change)) }
+    ensures text { IfOk result (λ reply. IfSome reply IsReplyText) }
+    ensures broken { IfOk result (IsBroken (P.Breaks server.now.keeper.now)
+        (HasWaited H.Hub server.now.hub.now pass.old pass.new)) }
+    ensures refused { OnErr result (HasWaited H.Hub server.now.hub.now pass.old pass.new) }
     ensures asked { H.asked pass.new ≡ H.asked pass.old }
 {
-    match hub.accept(alloc, change, pass) {
+    match server
+        .keeper
+        .accept(server.hub, server.alloc, change, line, pass)
+    {
         Ok(number) => {
-            gate.after_accept(number);
-            Ok(Reply::Change(number))
+            server.gate.after_accept(number);
+            Ok(Some(Reply::Change(number)))
         }
-        Err(Refused::Absent) => Ok(Reply::Absent),
-        Err(Refused::FullChanges) => Ok(Reply::FullChanges),
-        Err(Refused::FullText) => Ok(Reply::FullText),
-        Err(Refused::Memory) => Err(Memory),
+        Err(Unkept::Refused(Refused::Absent)) => Ok(Some(Reply::Absent)),
+        Err(Unkept::Refused(Refused::FullChanges)) => Ok(Some(Reply::FullChanges)),
+        Err(Unkept::Refused(Refused::FullText)) => Ok(Some(Reply::FullText)),
+        Err(Unkept::Refused(Refused::Memory)) => Err(Memory),
+        Err(Unkept::Broken) => Ok(None),
     }
 }
 
-fn state_reply<W: Indexed, H: Hub<W>>(hub: &H, pass: &mut H::Pass) -> Reply
-    requires stands { IsPassOf H.Stands hub.now pass.old }
-    ensures replies { HasTold H.Hub hub.now pass.old pass.new result }
-    ensures text { IsReplyText result }
+// The reply that reports the state; none if a line could not be kept.
+fn state_reply<W: Indexed, H: Hub<W>, P: Keeper<W, H>, G>(
+    server: &Server<'_, H, P, G>,
+    pass: &mut H::Pass,
+) -> Option<Reply>
+    requires stands { IsPassOf H.Stands server.now.hub.now pass.old }
+    ensures replies { IfSome result (HasTold H.Hub server.now.hub.now pass.old pass.new) }
+    ensures text { IfSome result IsReplyText }
+    ensures broken { IsBroken (P.Breaks server.now.keeper.now)
+        (HasWaited H.Hub server.now.hub.now pass.old pass.new) result }
     ensures asked { H.asked pass.new ≡ H.asked pass.old }
 {
-    let asked = hub.ask(pass);
-    Reply::State {
+    let asked = server.keeper.ask(server.hub, pass)?;
+    Some(Reply::State {
         accepted: asked.accepted,
         done: asked.done,
         published: asked.published,
+    })
+}
+
+// The reply to a query whose floor is at least `seen`; none if a line could not be kept, and then nothing was done. Behind an
+// answer by a view the hub is swept. Where memory is refused, what was done is a beginning of what the query does.
+fn kept_query_reply<R: Threads + Sync, L: Ledger, H: Hub<Work<L>>, P: Keeper<Work<L>, H>, G: Gate>(
+    rt: &R,
+    server: &Server<'_, H, P, G>,
+    query: &Query,
+    seen: u64,
+    pass: &mut H::Pass,
+    steps: &mut Steps<L>,
+) -> Result<Option<Reply>, Memory>
+    requires in_range { IsInRange server.now.keyer.now.settings }
+    requires hub_settings { H.settings server.now.hub.now ≡ server.now.keyer.now.settings }
+    requires long { server.now.keyer.now.settings.chunk ≤ query.now.min }
+    requires path { HasPath query.now.kind query.now.path }
+    requires scope { HasScope query.now.path query.now.scope }
+    requires closed { HasAccepted H.Hub server.now.hub.now pass.old seen }
+    ensures replies { IfOk result (λ reply. IfSome reply
+        (HasAnswered H.Hub server.now.hub.now pass.old pass.new steps.old steps.new seen query.now)) }
+    ensures text { IfOk result (λ reply. IfSome reply IsReplyText) }
+    ensures broken { IfOk result (IsBroken (P.Breaks server.now.keeper.now)
+        (HasWaited H.Hub server.now.hub.now pass.old pass.new)) }
+    ensures refused { OnErr result
+        (GivesUp H.Hub server.now.hub.now pass.old pass.new steps.old steps.new seen query.now) }
+{
+    let Some(asked) = server.keeper.ask(server.hub, pass) else {
+        return Ok(None);
+    };
+    if query.at > asked.accepted {
+        return Ok(Some(Reply::Future(asked.accepted)));
+    }
+    if query.finish {
+        return match help(server, asked.done, asked.accepted, pass) {
+            Ok(()) => match view_reply(rt, server, query, asked.accepted, pass, steps) {
+                Ok(reply) => Ok(Some(reply)),
+                Err(Memory) => Err(Memory),
+            },
+            Err(Memory) => Err(Memory),
+        };
+    }
+    if seen.max(query.at) > asked.done {
+        return Ok(Some(Reply::Pending(asked.done + 1)));
+    }
+    match view_reply(rt, server, query, asked.done, pass, steps) {
+        Ok(reply) => Ok(Some(reply)),
+        Err(Memory) => Err(Memory),
     }
 }
 
@@ -66,7 +132,7 @@ fn state_reply<W: Indexed, H: Hub<W>>(hub: &H, pass: &mut H::Pass) -> Reply
 /// refused, what was done is a beginning of what the query does.
 pub fn query_reply<R: Threads + Sync, L: Ledger, H: Hub<Work<L>>, G: Gate>(
     rt: &R,
-    server: &Server<'_, H, G>,
+    server: &Server<'_, H, NoLog, G>,
     query: &Query,
     seen: u64,
     pass: &mut H::Pass,
@@ -84,50 +150,50 @@ pub fn query_reply<R: Threads + Sync, L: Ledger, H: Hub<Work<L>>, G: Gate>(
     ensures refused { OnErr result
         (GivesUp H.Hub server.now.hub.now pass.old pass.new steps.old steps.new seen query.now) }
 {
-    let asked = server.hub.ask(pass);
-    if query.at > asked.accepted {
-        return Ok(Reply::Future(asked.accepted));
+    match kept_query_reply(rt, server, query, seen, pass, steps) {
+        Ok(Some(reply)) => Ok(reply),
+        Ok(None) => unreachable!(),
+        Err(Memory) => Err(Memory),
     }
-    if query.finish {
-        return match help(server, asked.done, asked.accepted, pass) {
-            Ok(()) => view_reply(rt, server, query, asked.accepted, pass, steps),
-            Err(Memory) => Err(Memory),
-        };
-    }
-    if seen.max(query.at) > asked.done {
-        return Ok(Reply::Pending(asked.done + 1));
-    }
-    view_reply(rt, server, query, asked.done, pass, steps)
 }
 
-/// The reply to what a line says. Where memory is refused, what was done is a beginning of what the line does.
-pub(crate) fn reply_to<R: Threads + Sync, L: Ledger, H: Hub<Work<L>>, G: Gate>(
+/// The reply to what a line says; none if a line could not be kept. Where memory is refused, what was done is a beginning of
+/// what the line does.
+pub(crate) fn reply_to<
+    R: Threads + Sync,
+    L: Ledger,
+    H: Hub<Work<L>>,
+    P: Keeper<Work<L>, H>,
+    G: Gate,
+>(
     rt: &R,
-    server: &Server<'_, H, G>,
+    server: &Server<'_, H, P, G>,
     line: &[u8],
     seen: u64,
     pass: &mut H::Pass,
     steps: &mut Steps<L>,
-) -> Result<Reply, Memory>
+) -> Result<Option<Reply>, Memory>
     requires in_range { IsInRange server.now.keyer.now.settings }
     requires hub_settings { H.settings server.now.hub.now ≡ server.now.keyer.now.settings }
+    requires keeps { P.Keeps server.now.keeper.now server.now.hub.now }
+    requires no_feed { HasNoFeed line.now }
+    requires short { length line.now ≤ line_limit }
     requires closed { HasAccepted H.Hub server.now.hub.now pass.old seen }
-    ensures replies { IfOk result (Replies H.Hub server.now.hub.now pass.old pass.new
-        steps.old steps.new seen server.now.keyer.now.settings line.now) }
-    ensures text { IfOk result IsReplyText }
+    ensures replies { IfOk result (λ reply. IfSome reply (Replies H.Hub server.now.hub.now pass.old pass.new
+        steps.old steps.new seen (P.acceptor server.now.keeper.now) server.now.keyer.now.settings line.now)) }
+    ensures text { IfOk result (λ reply. IfSome reply IsReplyText) }
+    ensures broken { IfOk result (IsBroken (P.Breaks server.now.keeper.now)
+        (HasWaited H.Hub server.now.hub.now pass.old pass.new)) }
     ensures refused { OnErr result (Begins H.Hub server.now.hub.now pass.old pass.new
         steps.old steps.new seen server.now.keyer.now.settings line.now) }
 {
     match read_request(server.alloc, &server.keyer.settings, line) {
-        Ok(Request::Change(change)) => change_reply(
-            server.alloc,
-            server.hub,
-            change,
-            server.gate,
-            pass,
-        ),
-        Ok(Request::Query(query)) => { query_reply(rt, server, &query, seen, pass, steps) }
-        Ok(Request::State) => Ok(state_reply(server.hub, pass)),
-        Err(refusal) => refused_as(refusal),
+        Ok(Request::Change(change)) => change_reply(server, change, line, pass),
+        Ok(Request::Query(query)) => kept_query_reply(rt, server, &query, seen, pass, steps),
+        Ok(Request::State) => Ok(state_reply(server, pass)),
+        Err(refusal) => match refused_as(refusal) {
+            Ok(reply) => Ok(Some(reply)),
+            Err(Memory) => Err(Memory),
+        },
     }
 }

@@ -12,8 +12,8 @@ use cq_work::{Work, work_for};
 use std::sync::ledger::Ledger;
 
 // The work of a change is done, by this caller where it was not done yet.
-fn help_one<L: Ledger, H: Hub<Work<L>>, G: Gate>(
-    server: &Server<'_, H, G>,
+fn help_one<L: Ledger, H: Hub<Work<L>>, P, G: Gate>(
+    server: &Server<'_, H, P, G>,
     change: u64,
     pass: &mut H::Pass,
 ) -> Result<(), Memory>
@@ -46,8 +46,8 @@ const BLOCK: u64 = 64;
 
 // The works of the changes behind the first `done`, which are done, are done up to the one with the number `to`, the last
 // one first.
-fn help_down<L: Ledger, H: Hub<Work<L>>, G: Gate>(
-    server: &Server<'_, H, G>,
+fn help_down<L: Ledger, H: Hub<Work<L>>, P, G: Gate>(
+    server: &Server<'_, H, P, G>,
     done: u64,
     to: u64,
     pass: &mut H::Pass,
@@ -74,8 +74,8 @@ fn help_down<L: Ledger, H: Hub<Work<L>>, G: Gate>(
 /// The works of the changes behind the first `done`, which are done, are done up to the one with the number `to`. Each
 /// costs what `work_of` does, unless it is done by then. Of some changes in a row the last one is made first: workers
 /// begin with the first one, so few are made twice.
-pub(crate) fn help<L: Ledger, H: Hub<Work<L>>, G: Gate>(
-    server: &Server<'_, H, G>,
+pub(crate) fn help<L: Ledger, H: Hub<Work<L>>, P, G: Gate>(
+    server: &Server<'_, H, P, G>,
     done: u64,
     to: u64,
     pass: &mut H::Pass,

@@ -1,59 +1,80 @@
-ghost use Rattle.std.specs.Prelude.{◌≡◌, ◌≤◌, length};
+ghost use Rattle.std.specs.Prelude.{◌≡◌, ◌≤◌, length, IfOk, IfErr, IfSome};
 ghost use Rattle.cq_base.specs.Settings.{IsInRange};
 ghost use Rattle.cq_io.specs.Causes.{HasCause};
-ghost use Rattle.cq_lines.specs.Pieces.{line_limit};
+ghost use Rattle.cq_lines.specs.Pieces.{HasNoFeed, line_limit};
 ghost use Rattle.cq_lines.specs.Runs.{IsFresh};
-ghost use Rattle.cq_lines.specs.Serving.{HasCauseOfEnd};
+ghost use Rattle.cq_lines.specs.Serving.{HasCauseOfEnd, HasCauseUntil};
 ghost use Rattle.cq_talk.specs.Steps.{Always, MayLead};
-ghost use Rattle.cq_session.specs.Passes.{HasAccepted, HasSentLine, HasServed};
+ghost use Rattle.cq_session.specs.Keeping.{itself};
+ghost use Rattle.cq_session.specs.Overs.{HasSentOrStopped, HasServedUntil, MayStop};
+ghost use Rattle.cq_session.specs.Passes.{HasAccepted, HasServed};
 
-use crate::Server;
 use crate::telling::told;
+use crate::{Keeper, NoLog, Server, Stop};
 use cq_base::Steps;
 use cq_hub::Hub;
 use cq_io::{Failed, Gate, Sink, Source, send};
-use cq_lines::{Answers, End, Lines, serve_lines};
+use cq_lines::{AnswersUntil, End, Lines, serve_lines_until};
 use cq_reply::{Short, fixed};
 use cq_work::Work;
 use std::sync::ledger::Ledger;
 use std::thread::Threads;
 
-// Writes the reply to a line, which is not too long. What the reply names is seen from then on.
-fn turn<R: Threads + Sync, L: Ledger, H: Hub<Work<L>>, K: Sink, G: Gate>(
+// Writes the reply to a line, which is not too long, and answers none. What the reply names is seen from then on. If a line
+// could not be kept, it writes nothing, and answers that.
+fn turn<R: Threads + Sync, L: Ledger, H: Hub<Work<L>>, P: Keeper<Work<L>, H>, K: Sink, G: Gate>(
     rt: &R,
-    server: &Server<'_, H, G>,
+    server: &Server<'_, H, P, G>,
     line: &[u8],
     seen: &mut u64,
     pass: &mut H::Pass,
     sink: &mut K,
     steps: &mut Steps<L>,
-) -> Result<(), Failed>
+) -> Result<Option<Stop>, Failed>
     requires in_range { IsInRange server.now.keyer.now.settings }
     requires hub_settings { H.settings server.now.hub.now ≡ server.now.keyer.now.settings }
+    requires keeps { P.Keeps server.now.keeper.now server.now.hub.now }
+    requires no_feed { HasNoFeed line.now }
     requires short { length line.now ≤ line_limit }
     requires closed { HasAccepted H.Hub server.now.hub.now pass.old seen.old }
-    ensures turns { HasSentLine H.Hub server.now.hub.now pass.old pass.new steps.old steps.new
-        seen.old server.now.keyer.now.settings line.now (K.written sink.old) (K.written sink.new) result seen.new }
+    ensures turns { HasSentOrStopped H.Hub server.now.hub.now pass.old pass.new steps.old steps.new
+        seen.old (P.acceptor server.now.keeper.now) server.now.keyer.now.settings line.now
+        (K.written sink.old) (K.written sink.new) result seen.new }
+    ensures broken { IfOk result (λ why. IfSome why (MayStop (P.Breaks server.now.keeper.now))) }
     ensures cause { HasCause (K.faults sink.old) (K.faults sink.new) result }
 {
-    let (line, number) = told(rt, server, line, *seen, pass, steps);
+    let Some((line, number)) = told(rt, server, line, *seen, pass, steps) else {
+        return Ok(Some(Stop::Unkept));
+    };
     *seen = (*seen).max(number);
-    send(sink, line.as_bytes())
+    match send(sink, line.as_bytes()) {
+        Ok(()) => Ok(None),
+        Err(Failed) => Err(Failed),
+    }
 }
 
 // A talk, between two lines. The pass and the counter have lifetimes of their own, so that what became of each is known
 // when the talk is over.
 #[derive(Drop)]
-struct Talk<'a, 's, 'p, 'c, R, L: Ledger, H: Hub<Work<L>>, G> {
+struct Talk<'a, 's, 'p, 'c, R, L: Ledger, H: Hub<Work<L>>, P, G> {
     rt: &'a R,
-    server: &'a Server<'s, H, G>,
+    server: &'a Server<'s, H, P, G>,
     pass: &'p mut H::Pass,
     seen: u64,
     steps: &'c mut Steps<L>,
 }
 
-impl<'a, 's, 'p, 'c, R: Threads + Sync, L: Ledger, H: Hub<Work<L>>, G: Gate> Answers
-    for Talk<'a, 's, 'p, 'c, R, L, H, G> {
+impl<
+    'a,
+    's,
+    'p,
+    'c,
+    R: Threads + Sync,
+    L: Ledger,
+    H: Hub<Work<L>>,
+    P: Keeper<Work<L>, H>,
+    G: Gate,
+> AnswersUntil for Talk<'a, 's, 'p, 'c, R, L, H, P, G> {
     ghost use Rattle.std.specs.Prelude.{◌≡◌, ℕ, List};
     ghost use Rattle.std.specs.Thread.{IsSync};
     ghost use Rattle.cq_base.specs.Settings.{IsInRange};
@@ -61,8 +82,11 @@ impl<'a, 's, 'p, 'c, R: Threads + Sync, L: Ledger, H: Hub<Work<L>>, G: Gate> Ans
     ghost use Rattle.cq_reply.specs.Written.{line_of as written};
     ghost use Rattle.cq_reply.specs.declared.reply.Reply.{Reply as Told};
     ghost use Rattle.cq_session.specs.Costs.{counted};
+    ghost use Rattle.cq_session.specs.Overs.{MayStop};
     ghost use Rattle.cq_session.specs.Passes.{HasAccepted};
-    ghost use Rattle.cq_session.specs.Serving.{HasTalked};
+    ghost use Rattle.cq_session.specs.Serving.{HasTalked, HasStopped as HasStoppedAt};
+
+    type Stop = Stop;
 
     ghost Reply = { Told };
 
@@ -71,16 +95,26 @@ impl<'a, 's, 'p, 'c, R: Threads + Sync, L: Ledger, H: Hub<Work<L>>, G: Gate> Ans
     ghost Beginning = { ℕ × List Happened };
 
     ghost AreReplies = { λ from first now lines replies.
-        HasTalked H.Hub now.server.now.keyer.now.settings now.server.now.hub.now from
+        HasTalked H.Hub now.server.now.keyer.now.settings now.server.now.hub.now
+        (P.acceptor now.server.now.keeper.now) from
         (counted first.steps.now now.steps.now (H.asked first.pass.now) (H.asked now.pass.now))
         now.pass.now now.seen lines replies
-        × (now.server.now.keyer.now.settings ≡ first.server.now.keyer.now.settings) × (now.server.now.hub.now ≡ first.server.now.hub.now) };
+        × (now.server.now.keyer.now.settings ≡ first.server.now.keyer.now.settings) × (now.server.now.hub.now ≡ first.server.now.hub.now)
+        × (now.server.now.keeper.now ≡ first.server.now.keeper.now) };
+
+    ghost HasStopped = { λ from first now lines replies why.
+        HasStoppedAt H.Hub now.server.now.keyer.now.settings now.server.now.hub.now
+        (P.acceptor now.server.now.keeper.now) from now.pass.now lines replies why
+        × (now.server.now.keyer.now.settings ≡ first.server.now.keyer.now.settings) × (now.server.now.hub.now ≡ first.server.now.hub.now)
+        × (now.server.now.keeper.now ≡ first.server.now.keeper.now)
+        × MayStop (P.Breaks now.server.now.keeper.now) why };
 
     ghost ready = { λ t. IsSync R.row × IsInRange t.server.now.keyer.now.settings
         × (H.settings t.server.now.hub.now ≡ t.server.now.keyer.now.settings)
+        × P.Keeps t.server.now.keeper.now t.server.now.hub.now
         × HasAccepted H.Hub t.server.now.hub.now t.pass.now t.seen };
 
-    fn answer<K: Sink>(&mut self, line: &[u8], sink: &mut K) -> Result<(), Failed> {
+    fn answer<K: Sink>(&mut self, line: &[u8], sink: &mut K) -> Result<Option<Stop>, Failed> {
         turn(
             self.rt,
             self.server,
@@ -98,14 +132,55 @@ impl<'a, 's, 'p, 'c, R: Threads + Sync, L: Ledger, H: Hub<Work<L>>, G: Gate> Ans
 }
 
 /// Answers the lines of a source one by one by calls of a hub, whose pass has no view open. Windows have the keys of
-/// `keyer`. Each whole reply is handed to the sink before the next line is cut. Afterwards the pass stands for the
-/// history to which the talk came, with no view open. Behind each answer by a view, and before it is written, the hub is
-/// swept; want of memory there is let go. The gate is told of each accepted change, of each work before it is
-/// made, of each shard that was brought up and of each view that was opened. The cutter keeps its limit, so that it may be
-/// restarted for another source.
+/// `keyer`. A change is accepted by the keeper, which keeps its line before its reply is written; and no version is shown
+/// with a change whose line is not kept. Each whole reply is handed to the sink before the next line is cut. Afterwards the
+/// pass stands for the history to which the talk came, with no view open. Behind each answer by a view, and before it is
+/// written, the hub is swept; want of memory there is let go. The gate is told of each accepted change, of each work before
+/// it is made, of each shard that was brought up and of each view that was opened. The cutter keeps its limit, so that it
+/// may be restarted for another source.
+pub fn kept_session<
+    R: Threads + Sync,
+    L: Ledger,
+    H: Hub<Work<L>>,
+    P: Keeper<Work<L>, H>,
+    S: Source,
+    K: Sink,
+    G: Gate,
+>(
+    rt: &R,
+    server: &Server<'_, H, P, G>,
+    pass: &mut H::Pass,
+    lines: &mut Lines,
+    source: &mut S,
+    sink: &mut K,
+    steps: &mut Steps<L>,
+) -> Result<End, Stop>
+    requires fresh { IsFresh lines.old }
+    requires in_range { IsInRange server.now.keyer.now.settings }
+    requires hub_settings { H.settings server.now.hub.now ≡ server.now.keyer.now.settings }
+    requires keeps { P.Keeps server.now.keeper.now server.now.hub.now }
+    requires closed { MayLead H.Stands (H.callers server.now.hub.now) server.now.hub.now pass.old Always }
+    ensures served { HasServedUntil H.Hub server.now.hub.now pass.old pass.new steps.old steps.new
+        (P.acceptor server.now.keeper.now) S.Source K.Sink server.now.keyer.now.settings
+        lines.old.limit source.old source.new sink.old sink.new result }
+    ensures broken { IfErr result (MayStop (P.Breaks server.now.keeper.now)) }
+    ensures cause { HasCauseUntil S.Source K.Sink source.old source.new sink.old sink.new result }
+    ensures limit { lines.new.limit ≡ lines.old.limit }
+{
+    let mut talk = Talk {
+        rt,
+        server,
+        pass,
+        seen: 0,
+        steps,
+    };
+    serve_lines_until(&mut talk, lines, source, sink)
+}
+
+/// Answers the lines of a source, as `kept_session` does, and keeps none: each change is accepted by its caller.
 pub fn session<R: Threads + Sync, L: Ledger, H: Hub<Work<L>>, S: Source, K: Sink, G: Gate>(
     rt: &R,
-    server: &Server<'_, H, G>,
+    server: &Server<'_, H, NoLog, G>,
     pass: &mut H::Pass,
     lines: &mut Lines,
     source: &mut S,
@@ -116,17 +191,13 @@ pub fn session<R: Threads + Sync, L: Ledger, H: Hub<Work<L>>, S: Source, K: Sink
     requires in_range { IsInRange server.now.keyer.now.settings }
     requires hub_settings { H.settings server.now.hub.now ≡ server.now.keyer.now.settings }
     requires closed { MayLead H.Stands (H.callers server.now.hub.now) server.now.hub.now pass.old Always }
-    ensures served { HasServed H.Hub server.now.hub.now pass.old pass.new steps.old steps.new S.Source K.Sink
+    ensures served { HasServed H.Hub server.now.hub.now pass.old pass.new steps.old steps.new itself S.Source K.Sink
         server.now.keyer.now.settings lines.old.limit source.old source.new sink.old sink.new result }
     ensures cause { HasCauseOfEnd S.Source K.Sink source.old source.new sink.old sink.new result }
     ensures limit { lines.new.limit ≡ lines.old.limit }
 {
-    let mut talk = Talk {
-        rt,
-        server,
-        pass,
-        seen: 0,
-        steps,
-    };
-    serve_lines(&mut talk, lines, source, sink)
+    match kept_session(rt, server, pass, lines, source, sink, steps) {
+        Ok(end) => end,
+        Err(Stop::Unkept) => unreachable!(),
+    }
 }

@@ -1,10 +1,12 @@
-ghost use Rattle.std.specs.Prelude.{◌≡◌};
+ghost use Rattle.std.specs.Prelude.{◌≡◌, ◌≤◌, length, IfSome};
 ghost use Rattle.cq_base.specs.Settings.{IsInRange};
+ghost use Rattle.cq_lines.specs.Pieces.{HasNoFeed, line_limit};
 ghost use Rattle.cq_talk.specs.Replies.{named as named_in};
-ghost use Rattle.cq_session.specs.Passes.{HasAccepted, HasLine};
+ghost use Rattle.cq_session.specs.Keeping.{IsBroken};
+ghost use Rattle.cq_session.specs.Passes.{HasAccepted, HasLine, HasWaited};
 
-use crate::Server;
 use crate::answering::reply_to;
+use crate::{Keeper, Server};
 use cq_base::{Memory, Steps};
 use cq_hub::Hub;
 use cq_io::Gate;
@@ -29,26 +31,32 @@ fn named(reply: &Reply) -> u64
     }
 }
 
-/// The line that tells the reply to a line, and the number that the reply names.
-pub(crate) fn told<R: Threads + Sync, L: Ledger, H: Hub<Work<L>>, G: Gate>(
+/// The line that tells the reply to a line, and the number that the reply names; none if a line could not be kept.
+pub(crate) fn told<R: Threads + Sync, L: Ledger, H: Hub<Work<L>>, P: Keeper<Work<L>, H>, G: Gate>(
     rt: &R,
-    server: &Server<'_, H, G>,
+    server: &Server<'_, H, P, G>,
     line: &[u8],
     seen: u64,
     pass: &mut H::Pass,
     steps: &mut Steps<L>,
-) -> (Line, u64)
+) -> Option<(Line, u64)>
     requires in_range { IsInRange server.now.keyer.now.settings }
     requires hub_settings { H.settings server.now.hub.now ≡ server.now.keyer.now.settings }
+    requires keeps { P.Keeps server.now.keeper.now server.now.hub.now }
+    requires no_feed { HasNoFeed line.now }
+    requires short { length line.now ≤ line_limit }
     requires closed { HasAccepted H.Hub server.now.hub.now pass.old seen }
-    ensures { HasLine H.Hub server.now.hub.now pass.old pass.new
-        steps.old steps.new seen server.now.keyer.now.settings line.now result }
+    ensures line { IfSome result (HasLine H.Hub server.now.hub.now pass.old pass.new
+        steps.old steps.new seen (P.acceptor server.now.keeper.now) server.now.keyer.now.settings line.now) }
+    ensures broken { IsBroken (P.Breaks server.now.keeper.now)
+        (HasWaited H.Hub server.now.hub.now pass.old pass.new) result }
 {
     match reply_to(rt, server, line, seen, pass, steps) {
-        Ok(reply) => match line_of(server.alloc, &reply) {
-            Ok(line) => (line, named(&reply)),
-            Err(Memory) => (Line::Short(fixed(Short::Memory)), 0),
+        Ok(Some(reply)) => match line_of(server.alloc, &reply) {
+            Ok(line) => Some((line, named(&reply))),
+            Err(Memory) => Some((Line::Short(fixed(Short::Memory)), 0)),
         },
-        Err(Memory) => (Line::Short(fixed(Short::Memory)), 0),
+        Ok(None) => None,
+        Err(Memory) => Some((Line::Short(fixed(Short::Memory)), 0)),
     }
 }

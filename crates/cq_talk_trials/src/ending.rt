@@ -6,7 +6,7 @@ use cq_base::{Counters, Memory, Settings, Steps};
 use cq_chain::Pass;
 use cq_io::{Gate, MemSink, MemSource, Sink, Source};
 use cq_lines::{End, Lines};
-use cq_session::{Server, session};
+use cq_session::{NoLog, Server, session};
 use cq_shared::Shared;
 use cq_work::{Keyer, Work};
 use std::alloc::Global;
@@ -38,6 +38,7 @@ pub(crate) fn conversed<Q: Threads + Sync, L: Ledger, R: Wait, S: Source, K: Sin
         alloc,
         keyer: &keyer,
         hub,
+        keeper: &NoLog,
         gate,
     };
     let end = session(rt, &server, &mut pass, &mut lines, source, sink, &mut steps);

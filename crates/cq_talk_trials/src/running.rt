@@ -6,7 +6,7 @@ use cq_base::{Memory, Steps};
 use cq_hub::Hub;
 use cq_io::{Gate, MemSink, MemSource};
 use cq_lines::{End, Lines};
-use cq_session::{Server, session};
+use cq_session::{NoLog, Server, session};
 use cq_work::{Keyer, Work};
 use std::alloc::Global;
 use std::sync::ledger::Ledger;
@@ -36,6 +36,7 @@ pub fn written<R: Threads + Sync, L: Ledger, H: Hub<Work<L>>, G: Gate>(
         alloc,
         keyer,
         hub,
+        keeper: &NoLog,
         gate,
     };
     let end = session(rt, &server, pass, &mut lines, &mut source, &mut sink, steps);

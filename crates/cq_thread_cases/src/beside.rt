@@ -6,7 +6,7 @@ use cq_beside::serve_one;
 use cq_chain::Pass;
 use cq_io::{Gate, MemSink, MemSource, Sink, Source};
 use cq_lines::{End, Lines};
-use cq_session::Server;
+use cq_session::{NoLog, Server};
 use cq_shared::Shared;
 use cq_stage::{Hold, Late, Scene, Stage, Until};
 use cq_work::{Keyer, Work};
@@ -68,6 +68,7 @@ fn served<Q: Threads + Wait + Sync, L: Ledger + Send + Sync, S: Source, K: Sink,
         alloc,
         keyer: &keyer,
         hub: &hub,
+        keeper: &NoLog,
         gate,
     };
     let end = serve_one(

@@ -1,5 +1,5 @@
 //! Two threads that accept a change each, by passes of their own.
-ghost use Rattle.std.specs.Prelude.{◌≡◌, ◌+◌, ◌<◌, [], ◌∷◌, ◌++◌, Option, Some, IfOk, option_to_list};
+ghost use Rattle.std.specs.Prelude.{◌≡◌, ◌+◌, ◌<◌, false, [], ◌∷◌, ◌++◌, Option, Some, IfOk, option_to_list};
 ghost use Rattle.cq_base.specs.Changes.{IsSoundChange};
 ghost use Rattle.cq_history.specs.declared.event.Event.{Event as Happened};
 ghost use Rattle.cq_history.specs.declared.event.Event.TheVariants as happened;
@@ -27,6 +27,7 @@ pub(crate) fn accept<W: Indexed, R: Wait>(
 ) -> (Pass<W>, Result<u64, Refused>)
     requires of { IsPassOf cells.now pass }
     requires free { IsFree pass }
+    requires accepts { cells.now.about.first_only ≡ false }
     requires sound { IsSoundChange change }
     ensures { IsBack cells.now change pass result.0 result.1 }
 {
@@ -56,6 +57,7 @@ pub(crate) fn accept_both<Q: Threads, W: Indexed + Send + Sync, R: Wait + Sync>(
 ) -> (Result<u64, Refused>, Result<u64, Refused>)
     requires of { IsPassOf cells.now pass.old }
     requires free { IsFree pass.old }
+    requires accepts { cells.now.about.first_only ≡ false }
     requires room { 1 < pass.old.room }
     requires sound { IsSoundChange first × IsSoundChange second }
     ensures of { IsPassOf cells.now pass.new }
@@ -69,11 +71,13 @@ pub(crate) fn accept_both<Q: Threads, W: Indexed + Send + Sync, R: Wait + Sync>(
     let (one, two) = join(
         rt,
         move || -> (Pass<W>, Result<u64, Refused>)
-            requires { IsPassOf cells.now one × IsFree one × IsSoundChange first }
+            requires { IsPassOf cells.now one × IsFree one
+                × (cells.now.about.first_only ≡ false) × IsSoundChange first }
             ensures { IsBack cells.entry.now first one result.0 result.1 }
         { accept(cells, alloc, one, first) },
         move || -> (Pass<W>, Result<u64, Refused>)
-            requires { IsPassOf cells.now two × IsFree two × IsSoundChange second }
+            requires { IsPassOf cells.now two × IsFree two
+                × (cells.now.about.first_only ≡ false) × IsSoundChange second }
             ensures { IsBack cells.entry.now second two result.0 result.1 }
         { accept(cells, alloc, two, second) },
     );
@@ -94,6 +98,7 @@ fn leave_accepted<W: Indexed, R>(
     ghost event: { Option Happened }
     requires event { event ≡ Some (happened.Accept (by_of pass.old) said.now.value) }
     requires of { IsPassOf cells.now pass.old }
+    requires accepts { cells.now.about.first_only ≡ false }
     requires hand { (b : BoardState) × HasBoard pass.old b }
     requires board { IsBoard cells.now.about (pass.old.seen ++ option_to_list event) board }
     ensures of { IsPassOf cells.now pass.new }

@@ -144,7 +144,7 @@ const SETTINGS: Settings = Settings {
 fn two_threads_accept(rt: HostRuntime) -> Result<(), Fail> {
     let board = Board::new(rt.alloc(), &SETTINGS, 3)?;
     let shards = shards_of(rt.alloc(), 2)?;
-    let (cells, mut pass) = Cells::new(&rt, rt.alloc(), board, shards)?;
+    let (cells, mut pass) = Cells::new(&rt, rt.alloc(), board, shards, false)?;
     let first = put(rt.alloc(), b'a')?;
     let second = put(rt.alloc(), b'b')?;
     let (first, second) = accept_both(&rt, &cells, rt.alloc(), &mut pass, first, second);
@@ -157,7 +157,7 @@ fn two_threads_accept(rt: HostRuntime) -> Result<(), Fail> {
 fn one_that_waits_goes_on(rt: HostRuntime) -> Result<(), Fail> {
     let board = Board::new(rt.alloc(), &SETTINGS, 3)?;
     let shards = shards_of(rt.alloc(), 2)?;
-    let (cells, mut pass): (_, Pass<Bare>) = Cells::new(&rt, rt.alloc(), board, shards)?;
+    let (cells, mut pass): (_, Pass<Bare>) = Cells::new(&rt, rt.alloc(), board, shards, false)?;
     hold_in_turn(&rt, &cells, &mut pass);
     pass.count_read();
     assert_eq!(rt; (pass.by(), pass.next()), (0, 3));

@@ -2,7 +2,7 @@
 //! command, what it is given, each number that is not its default, and each flag. Arguments without an arrow are refused.
 use crate::showing::{put, put_flag, put_text};
 use cq_base::{Memory, Settings, Text};
-use cq_words::{Command, connections, is_command, read_command};
+use cq_words::{Command, Listen, connections, is_command, read_command};
 use std::alloc::Global;
 use std::fmt::Write;
 
@@ -32,6 +32,14 @@ fn put_settings(out: &mut String, settings: &Settings) -> Result<(), Memory> {
     )
 }
 
+fn put_server(out: &mut String, asked: &Listen) -> Result<(), Memory> {
+    put_text(out, &asked.address)?;
+    put_settings(out, &asked.settings)?;
+    put(out, "workers", asked.workers as u64, 4)?;
+    put(out, "sessions", asked.sessions as u64, 8)?;
+    put(out, "connections", asked.connections as u64, 4_294_967_295)
+}
+
 fn put_command(out: &mut String, command: &Command) -> Result<(), Memory> {
     match command {
         Command::Run(run) => {
@@ -41,11 +49,11 @@ fn put_command(out: &mut String, command: &Command) -> Result<(), Memory> {
         }
         Command::Listen(listen) => {
             out.push_str("listen")?;
-            put_text(out, &listen.address)?;
-            put_settings(out, &listen.settings)?;
-            put(out, "workers", listen.workers as u64, 4)?;
-            put(out, "sessions", listen.sessions as u64, 8)?;
-            put(out, "connections", listen.connections as u64, 4_294_967_295)
+            put_server(out, listen)
+        }
+        Command::Serve(serve) => {
+            out.push_str("serve")?;
+            put_server(out, serve)
         }
         Command::Drive(settings) => {
             out.push_str("drive")?;
@@ -65,6 +73,10 @@ fn put_command(out: &mut String, command: &Command) -> Result<(), Memory> {
             out.push_str("ask")?;
             put_settings(out, settings)
         }
+        Command::Shorten(settings) => {
+            out.push_str("shorten")?;
+            put_settings(out, settings)
+        }
     }
 }
 
@@ -77,7 +89,7 @@ fn shown(alloc: Global, command: &Option<Command>) -> Result<String, Memory> {
     Ok(out)
 }
 
-// The connections of `listen` are also read by themselves.
+// The connections of `listen` and `serve` are also read by themselves.
 fn has_connections(
     alloc: Global,
     arguments: &[Text],
@@ -86,6 +98,7 @@ fn has_connections(
     let read = connections(alloc, arguments)?;
     Ok(match command {
         Some(Command::Listen(listen)) => read == Some(listen.connections),
+        Some(Command::Serve(serve)) => read == Some(serve.connections),
         _ => read.is_none(),
     })
 }
@@ -122,6 +135,10 @@ const READ: &str = "\
 [drive] ⇒ drive
 [ask] ⇒ ask
 [listen][here:80] ⇒ listen [here:80]
+[serve][here:80] ⇒ serve [here:80]
+[serve][--connections=2][a][--workers][0][--sessions=64][--chunk=2] ⇒ serve [a] chunk=2 workers=0 sessions=64 connections=2
+[shorten] ⇒ shorten
+[shorten][--byte-limit=7][--ignore-ids] ⇒ shorten ignore-ids byte-limit=7
 [listen][mem][--chunk][2][--workers][0][--sessions][1] ⇒ listen [mem] chunk=2 workers=0 sessions=1
 [listen][--connections=2][a] ⇒ listen [a] connections=2
 [listen][--sessions=64][--workers][0][=][--connections][1][--ignore-ids][--chunk=2] ⇒ listen [=] chunk=2 ignore-ids workers=0 sessions=64 connections=1
@@ -147,6 +164,9 @@ const REFUSED: &str = "\
 []
 
 [listen]
+[serve]
+[shorten][a]
+[shorten][--workers][1]
 [run][]
 [run][-]
 [run][--]
@@ -203,6 +223,8 @@ const REFUSED: &str = "\
 [listen][--help]
 [listen][-a]
 [listen][a][b]
+[serve][a][b]
+[serve][a][--sessions][0]
 [listen][--address][a]
 [listen][--address=a]
 [listen][a][--workers][65]

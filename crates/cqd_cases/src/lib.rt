@@ -23,6 +23,8 @@ mod limits;
 #[cfg(test)]
 mod listings;
 #[cfg(test)]
+mod logs;
+#[cfg(test)]
 mod marks;
 #[cfg(test)]
 mod options;

@@ -1,0 +1,2 @@
+pub mod LineLogs
+pub mod Saying

@@ -1,0 +1,3 @@
+mod Accepting
+mod Leveling
+mod Writing

@@ -1,0 +1,120 @@
+ghost use Rattle.std.specs.Prelude.{◌≡◌, true, false, Err, IfOk, IfErr, IfSome, IsNone};
+ghost use Rattle.cq_base.specs.Changes.{IsSoundChange};
+ghost use Rattle.cq_keep.specs.Saying.{Says};
+ghost use Rattle.cq_keep.specs.declared.unkept.Unkept.TheVariants as unkept;
+ghost use Rattle.cq_keeper.specs.Firsts.{AcceptsByFirst};
+ghost use Rattle.cq_keeper.specs.Kept.{IsLogOf, RefusesKept};
+ghost use Rattle.cq_shared.specs.Answers.{IsTold};
+ghost use Rattle.cq_shared.specs.SharedPasses.{IsPassOf, cells_of, settings_of};
+
+use crate::accepting::accept_by_first;
+use crate::naming::LogOf;
+use cq_base::Change;
+use cq_board::Asked;
+use cq_chain::Pass;
+use cq_io::{Failed, Sink};
+use cq_keep::{LineLog, Unkept};
+use cq_shard::Indexed;
+use cq_shared::Shared;
+use std::alloc::Global;
+use std::marker::{Model, PhantomData};
+use std::sync::Wait;
+
+/// What is in the lock: the log, and the pass of the first caller, which has seen each acceptance. If each line was written
+/// whole, the lines that were written are those of the accepted changes.
+#[derive(Drop)]
+pub struct Locked<W: Indexed, K: Sink + Drop, N: LogOf> {
+    log: LineLog<K>,
+    pass: Pass<W>,
+    of: PhantomData<N>,
+}
+
+impl<W: Indexed, K: Sink + Drop, N: LogOf> Model for Locked<W, K, N> {
+    ghost use Rattle.cq_keep.specs.declared.line_log.LineLog.{LineLog};
+    ghost use Rattle.cq_keeper.specs.Kept.{IsLogOf};
+
+    ghost Value = { LineLog K };
+
+    ghost view = { λ l. l.log };
+
+    ghost invariant = { λ l. IsLogOf K.Sink N.LogOf l.log l.pass };
+}
+
+impl<W: Indexed, K: Sink + Drop, N: LogOf> Locked<W, K, N> {
+    /// The log that begins with this sink, by the pass of the first caller.
+    pub fn new(sink: K, pass: Pass<W>) -> Self
+        requires log { IsLogOf K.Sink N.LogOf (record { sink = sink; whole = true }) pass }
+        ensures { result ≡ record { sink = sink; whole = true } }
+    {
+        Locked {
+            log: LineLog::new(sink),
+            pass,
+            of: PhantomData,
+        }
+    }
+
+    /// Whether each line was written whole.
+    pub fn is_whole(&self) -> bool
+        ensures { result ≡ self.now.whole }
+    {
+        self.log.whole
+    }
+
+    /// Accepts a change by the first caller and writes the line that says it. What the pass has seen then begins with what it had
+    /// seen, and ends with the acceptance.
+    pub fn accept<R: Wait>(
+        &mut self,
+        hub: &Shared<W, R>,
+        alloc: Global,
+        change: Change,
+        line: &[u8],
+        pass: &mut Pass<W>,
+    ) -> Result<u64, Unkept>
+        requires keeps { cells_of hub.now ≡ N.cells }
+        requires of { IsPassOf hub.now pass.old }
+        requires sound { IsSoundChange change }
+        requires says { Says (settings_of hub.now).chunk line.now change }
+        ensures accepted { IfOk result (AcceptsByFirst hub.now pass.old pass.new change) }
+        ensures refused { IfErr result (RefusesKept hub.now pass.old pass.new change) }
+        ensures kept { IfOk result (λ _. self.new.whole ≡ true) }
+        ensures broken { result ≡ Err unkept.Broken → self.new.whole ≡ false }
+        ensures asked { pass.new.asked ≡ pass.old.asked }
+    {
+        if !self.log.whole {
+            return Err(Unkept::Broken);
+        }
+        match accept_by_first(hub, alloc, change, &mut self.pass, pass) {
+            Ok(number) => match self.log.keep(line) {
+                Ok(()) => Ok(number),
+                Err(Failed) => Err(Unkept::Broken),
+            },
+            Err(cause) => Err(Unkept::Refused(cause)),
+        }
+    }
+
+    /// What a caller sees of the changes, each of which has its line; none if a line was not written whole.
+    pub fn ask<R: Wait>(&self, hub: &Shared<W, R>, pass: &mut Pass<W>) -> Option<Asked>
+        requires of { IsPassOf hub.now pass.old }
+        ensures told { IfSome result (IsTold hub.now pass.old pass.new) }
+        ensures still { IsNone result → pass.new ≡ pass.old }
+        ensures broken { IsNone result → self.now.whole ≡ false }
+        ensures asked { pass.new.asked ≡ pass.old.asked }
+    {
+        if !self.log.whole {
+            return None;
+        }
+        Some(hub.ask(pass))
+    }
+
+    /// The log.
+    pub fn into_log(self) -> LineLog<K>
+        ensures { result ≡ self }
+    {
+        let Locked {
+            log,
+            pass: _,
+            of: _,
+        } = self;
+        log
+    }
+}

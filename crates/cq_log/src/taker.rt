@@ -1,0 +1,20 @@
+ghost use Rattle.std.specs.Prelude.{ℕ, List, IfOk};
+ghost use Rattle.cq_base.specs.Changes.{IsSoundChange};
+ghost use Rattle.cq_base.specs.declared.change.Change.{Change as Said};
+ghost use Rattle.cq_base.specs.declared.settings.Settings.{Settings};
+ghost use Rattle.cq_log.specs.Takers.{TakesOne};
+
+use cq_base::{Change, Memory};
+use std::alloc::Global;
+
+/// Who takes the changes of a log, one after the other.
+pub trait Taker {
+    /// Under these settings it has taken just these changes, each by the line beside it.
+    ghost Has: { Self → Settings → List (List ℕ) → List Said → Type 0 };
+
+    /// Takes one change more, which a line says, and answers true; or answers that the change is not accepted. After
+    /// `Memory` nothing is known of it.
+    fn take(&mut self, alloc: Global, change: Change, line: &[u8]) -> Result<bool, Memory>
+        requires sound { IsSoundChange change }
+        ensures takes { IfOk result (TakesOne Has self.old self.new line.now change) };
+}

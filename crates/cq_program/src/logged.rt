@@ -1,0 +1,138 @@
+ghost use Rattle.std.specs.Prelude.{◌≡◌, ◌≤◌};
+ghost use Rattle.cq_base.specs.Settings.{IsInRange};
+
+use crate::status::{Exit, Status, status_of, status_of_served};
+use cq_base::{Counters, Memory, Settings};
+use cq_io::{Doors, Gate, Sink, Source};
+use cq_serve_kept::{Kept, serve_kept};
+use cq_shorten::{Shortened, shorten};
+use cq_words::Listen;
+use std::alloc::Global;
+use std::marker::Brand;
+use std::sync::Wait;
+use std::sync::ledger::{Blank, Ledger};
+use std::thread::Threads;
+
+// How the serving of a log ended, on a ledger of its own.
+fn kept<
+    Q: Threads + Wait + Sync,
+    L: Ledger + Send + Sync,
+    S: Source,
+    K: Sink + Send,
+    I: Source + Send + Drop,
+    O: Sink + Send + Drop,
+    D: Doors<In = I, Out = O>,
+    G: Gate + Sync,
+>(
+    rt: &Q,
+    alloc: Global,
+    asked: Listen,
+    source: &mut S,
+    sink: &mut K,
+    doors: &mut D,
+    gate: &G,
+    blank: Blank,
+) -> Result<Kept, Memory>
+    requires name { blank.name ≡ L.name }
+    requires parts { blank.parts ≡ L.parts }
+    requires in_range { IsInRange asked.settings }
+    requires workers { asked.workers ≤ 64 }
+    requires sessions { asked.sessions ≤ 64 }
+{
+    let counters: Counters<L> = Counters::new(blank);
+    let Listen {
+        settings,
+        address,
+        workers,
+        sessions,
+        connections: _,
+    } = asked;
+    serve_kept(
+        rt, alloc, &settings, address, &counters, source, sink, doors, gate, workers, sessions,
+    )
+}
+
+fn exit_of(kept: Kept) -> Exit {
+    match kept {
+        Kept::Served(served) => Exit {
+            status: status_of_served(served),
+            served: Some(served),
+        },
+        Kept::Broken => Exit {
+            status: Status::WriteFault,
+            served: None,
+        },
+        Kept::Refused => Exit {
+            status: Status::LineRefused,
+            served: None,
+        },
+        Kept::Spent => Exit {
+            status: Status::Spent,
+            served: None,
+        },
+        Kept::ReadFault => Exit {
+            status: Status::ReadFault,
+            served: None,
+        },
+        Kept::Unbound => Exit {
+            status: Status::DoorsFault,
+            served: None,
+        },
+    }
+}
+
+/// Takes a log from the source, serves the connections that come to the address, and continues the log in the sink.
+pub(crate) fn serve_logged<
+    Q: Threads + Wait + Sync,
+    S: Source,
+    K: Sink + Send,
+    I: Source + Send + Drop,
+    O: Sink + Send + Drop,
+    D: Doors<In = I, Out = O>,
+    G: Gate + Sync,
+>(
+    rt: &Q,
+    alloc: Global,
+    asked: Listen,
+    source: &mut S,
+    sink: &mut K,
+    doors: &mut D,
+    gate: &G,
+) -> Exit
+    requires in_range { IsInRange asked.settings }
+    requires workers { asked.workers ≤ 64 }
+    requires sessions { asked.sessions ≤ 64 }
+{
+    match kept::<Q, Brand, S, K, I, O, D, G>(
+        rt,
+        alloc,
+        asked,
+        source,
+        sink,
+        doors,
+        gate,
+        Blank::new(1),
+    ) {
+        Ok(kept) => exit_of(kept),
+        Err(Memory) => Exit {
+            status: Status::Memory,
+            served: None,
+        },
+    }
+}
+
+/// The status of the shortening of a log.
+pub(crate) fn shortened<S: Source, K: Sink>(
+    alloc: Global,
+    settings: &Settings,
+    source: &mut S,
+    sink: &mut K,
+) -> Status
+    requires in_range { IsInRange settings.now }
+{
+    match shorten(alloc, settings, source, sink) {
+        Ok(Shortened::Refused) => Status::LineRefused,
+        Ok(Shortened::Ended(end)) => status_of(end),
+        Err(Memory) => Status::Memory,
+    }
+}

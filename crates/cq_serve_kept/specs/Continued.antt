@@ -1,0 +1,47 @@
+-- What a server writes that took a log.
+use Rattle.std.specs.Prelude.{◌≡◌, ℕ, List, [], ◌++◌, flat_map, Option, Some}
+use Rattle.std.specs.Io.KnownBytes.{Appends, Consumes, IsAtEnd}
+use Rattle.cq_base.specs.declared.change.Change.{Change}
+use Rattle.cq_base.specs.declared.settings.Settings.{Settings}
+use Rattle.cq_history.specs.declared.event.Event.{Event}
+use Rattle.cq_history.specs.Lawful.{Lawful}
+use Rattle.cq_history.specs.State.{accepted}
+use Rattle.cq_io.specs.Causes.{Rose}
+use Rattle.cq_io.specs.declared.sink.Sink as sink
+use Rattle.cq_io.specs.declared.source.Source as source
+use Rattle.cq_lines.specs.Pieces.{ended}
+use Rattle.cq_log.specs.Laws.{ContinueWith}
+use Rattle.cq_log.specs.Logs.{Front, held_by}
+use Rattle.cq_log.specs.Mending.{is_unclosed, mending}
+use Rattle.cq_serve_kept.specs.declared.serving.Kept.{Kept}
+use Rattle.cq_serve_kept.specs.declared.serving.Kept.TheVariants as kept
+
+module _ {S K : Type 0} (from : source.Ghosts S) (onto : sink.Ghosts K) (set : Settings) (read read_now : S) (written written_now : K) where
+  -- The source had a log, up to its end. What was written are first bytes of what mends it and of the lines of further changes. These are accepted
+  -- after those of the log, and all of them are the changes of one history, from the first on.
+  pub record Continues : Type 0 where
+    pub got : List ℕ
+    pub bytes : Consumes (from.rest read) (from.rest read_now) got
+    pub at_end : IsAtEnd (from.rest read_now)
+    pub front : Front
+    pub held : held_by set got ≡ Some front
+    pub lines : List (List ℕ)
+    pub changes : List Change
+    pub continues : ContinueWith set front.changes lines changes
+    pub some : List ℕ
+    pub more : List ℕ
+    pub parts : some ++ more ≡ mending (is_unclosed got) front.torn ++ flat_map ended lines
+    pub written_is : Appends (onto.written written) (onto.written written_now) some
+    pub callers : ℕ
+    pub history : List Event
+    pub lawful : Lawful set callers history
+    pub accepts : accepted history ≡ front.changes ++ changes
+
+  -- by how it ended: all of it was written; or the sink failed; or nothing was written
+  abbrev pub EndsKept : Kept → Type 0
+  EndsKept (kept.Served served) = (is : Continues) × (is.more ≡ [])
+  EndsKept kept.Broken = Continues × Rose (onto.faults written) (onto.faults written_now)
+  EndsKept kept.Refused = written_now ≡ written
+  EndsKept kept.Spent = written_now ≡ written
+  EndsKept kept.ReadFault = (written_now ≡ written) × Rose (from.faults read) (from.faults read_now)
+  EndsKept kept.Unbound = written_now ≡ written

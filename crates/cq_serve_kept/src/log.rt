@@ -1,0 +1,74 @@
+ghost use Rattle.std.specs.Prelude.{true};
+ghost use Rattle.cq_keeper.specs.Kept.{IsLogOf};
+
+use cq_base::Change;
+use cq_board::Asked;
+use cq_chain::Pass;
+use cq_io::Sink;
+use cq_keep::{LineLog, Unkept};
+use cq_keeper::{Locked, LogOf};
+use cq_session::Keeper;
+use cq_shard::Indexed;
+use cq_shared::Shared;
+use std::alloc::Global;
+use std::sync::{Mutex, Wait};
+
+/// A log that the sessions of a server share.
+#[derive(Drop)]
+pub struct Log<'a, Q, W: Indexed, K: Sink + Drop, N: LogOf> {
+    rt: &'a Q,
+    locked: Mutex<Locked<W, K, N>>,
+}
+
+impl<'a, Q: Wait, W: Indexed, K: Sink + Drop, N: LogOf> Log<'a, Q, W, K, N> {
+    /// The log that begins with this sink, by the pass of the first caller.
+    pub fn new(rt: &'a Q, sink: K, pass: Pass<W>) -> Self
+        requires log { IsLogOf K.Sink N.LogOf (record { sink = sink; whole = true }) pass }
+    {
+        Log {
+            rt,
+            locked: Mutex::new(Locked::new(sink, pass)),
+        }
+    }
+
+    /// Whether each line was written whole so far.
+    pub fn is_whole(&self) -> bool {
+        self.locked.lock(self.rt).is_whole()
+    }
+
+    /// The log, once nobody uses it any more.
+    pub fn into_log(self) -> LineLog<K> {
+        let Log { rt: _, locked } = self;
+        locked.into_inner().into_log()
+    }
+}
+
+impl<'a, Q: Wait, W: Indexed, K: Sink + Drop, N: LogOf, R: Wait> Keeper<W, Shared<W, R>>
+    for Log<'a, Q, W, K, N> {
+    ghost use Rattle.std.specs.Prelude.{◌≡◌, Unit};
+    ghost use Rattle.cq_keeper.specs.Kept.{first_caller};
+    ghost use Rattle.cq_shared.specs.SharedPasses.{cells_of};
+
+    ghost acceptor = { λ keeper. first_caller };
+
+    ghost Keeps = { λ keeper hub. cells_of hub ≡ N.cells };
+
+    ghost Breaks = { λ keeper. Unit {0} };
+
+    fn accept(
+        &self,
+        hub: &Shared<W, R>,
+        alloc: Global,
+        change: Change,
+        line: &[u8],
+        pass: &mut Pass<W>,
+    ) -> Result<u64, Unkept> {
+        self.locked
+            .lock(self.rt)
+            .accept(hub, alloc, change, line, pass)
+    }
+
+    fn ask(&self, hub: &Shared<W, R>, pass: &mut Pass<W>) -> Option<Asked> {
+        self.locked.lock(self.rt).ask(hub, pass)
+    }
+}

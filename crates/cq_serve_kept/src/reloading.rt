@@ -1,0 +1,87 @@
+ghost use Rattle.std.specs.Prelude.{◌≡◌, IfOk, OnOk};
+ghost use Rattle.cq_base.specs.Settings.{IsInRange};
+ghost use Rattle.cq_serve_kept.specs.Reloads.{HasTaken};
+ghost use Rattle.cq_shared.specs.SharedPasses.{IsPassOf, settings_of};
+
+use cq_base::{Change, Memory, Settings};
+use cq_board::Refused;
+use cq_chain::Pass;
+use cq_io::OpenGate;
+use cq_log::Taker;
+use cq_request::{Request, read_request};
+use cq_shared::Shared;
+use cq_work::{Keyer, Work, work_for};
+use std::alloc::Global;
+use std::sync::Wait;
+use std::sync::ledger::Ledger;
+
+/// A hub that takes the changes of a log, by the pass of its first caller. It lets go of what no later version needs whenever a
+/// limit is reached.
+#[derive(Drop)]
+pub(crate) struct Reloaded<'a, L: Ledger, R> {
+    pub settings: &'a Settings,
+    pub keyer: &'a Keyer,
+    pub hub: &'a Shared<Work<L>, R>,
+    pub pass: Pass<Work<L>>,
+}
+
+impl<'a, L: Ledger, R: Wait> Reloaded<'a, L, R> {
+    // The works of all changes are made.
+    fn make_works(&mut self, alloc: Global) -> Result<(), Memory> {
+        'works: for _ in 0..u64::MAX {
+            let Some(job) = self.hub.take(&mut self.pass)? else {
+                break;
+            };
+            let work = work_for(alloc, self.settings, self.keyer, job.lang, &job.text)?;
+            let _finished = self.hub.finish(job.change, work, &mut self.pass);
+        }
+        Ok(())
+    }
+
+    // Publishes all changes, and lets go of what the last version doesn't need.
+    fn ease(&mut self, alloc: Global) -> Result<(), Memory> {
+        self.make_works(alloc)?;
+        let asked = self.hub.ask(&mut self.pass);
+        let _version = self
+            .hub
+            .advance(alloc, asked.done, &OpenGate, &mut self.pass)?;
+        let _floor = self.hub.sweep(alloc, &mut self.pass)?;
+        Ok(())
+    }
+
+    // Accepts a change, and answers whether it is accepted.
+    fn accept(&mut self, alloc: Global, change: Change) -> Result<bool, Memory> {
+        match self.hub.accept(alloc, change, &mut self.pass) {
+            Ok(_number) => Ok(true),
+            Err(Refused::Memory) => Err(Memory),
+            Err(Refused::Absent) => Ok(false),
+            Err(Refused::FullChanges) => Ok(false),
+            Err(Refused::FullText) => Ok(false),
+        }
+    }
+
+    // Accepts the change of a line, once all was let go that can be.
+    fn accept_again(&mut self, alloc: Global, line: &[u8]) -> Result<bool, Memory> {
+        self.ease(alloc)?;
+        match read_request(alloc, self.settings, line) {
+            Ok(Request::Change(change)) => self.accept(alloc, change),
+            Ok(Request::Query(_query)) => Ok(false),
+            Ok(Request::State) => Ok(false),
+            Err(_why) => Err(Memory),
+        }
+    }
+}
+
+impl<'a, L: Ledger, R: Wait> Taker for Reloaded<'a, L, R> {
+    ghost Has = { λ taker set lines changes. HasTaken taker.hub.now taker.pass set changes };
+
+    fn take(&mut self, alloc: Global, change: Change, line: &[u8]) -> Result<bool, Memory> {
+        match self.hub.accept(alloc, change, &mut self.pass) {
+            Ok(_number) => Ok(true),
+            Err(Refused::Memory) => Err(Memory),
+            Err(Refused::Absent) => Ok(false),
+            Err(Refused::FullChanges) => self.accept_again(alloc, line),
+            Err(Refused::FullText) => self.accept_again(alloc, line),
+        }
+    }
+}

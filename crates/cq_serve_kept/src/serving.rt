@@ -1,0 +1,152 @@
+ghost use Rattle.std.specs.Prelude.{◌≡◌, ◌≤◌, IfOk, OnErr};
+ghost use Rattle.cq_base.specs.Settings.{IsInRange};
+ghost use Rattle.cq_serve_kept.specs.Continued.{EndsKept};
+
+use crate::doors::KeptDoors;
+use crate::lent::Lent;
+use crate::log::Log;
+use crate::reloading::Reloaded;
+use cq_base::{Counters, Memory, Settings, Text};
+use cq_chain::Pass;
+use cq_io::{Doors, Failed, Gate, Sink, Source};
+use cq_lines::Lines;
+use cq_listen::{Passes, Served, passes_of, serve_over};
+use cq_log::{Taken, mend, take_log};
+use cq_shared::Shared;
+use cq_work::{Keyer, Work};
+use std::alloc::Global;
+use std::marker::Brand;
+use std::sync::Wait;
+use std::sync::ledger::Ledger;
+use std::thread::Threads;
+
+/// How a server ended that keeps a log.
+#[derive(Clone, Copy, Debug, PartialEq, Eq)]
+pub enum Kept {
+    /// Connections were served, and each accepted change has its line.
+    Served(Served),
+    /// A line could not be written whole, or the end of the log could not be mended.
+    Broken,
+    /// A line of the log is none that a log may have there. Nothing was written, and no address was bound.
+    Refused,
+    /// The limit on the bytes was reached before the end of the log. Nothing was written, and no address was bound.
+    Spent,
+    /// A read of the log failed. Nothing was written, and no address was bound.
+    ReadFault,
+    /// The address could not be bound. Nothing was written.
+    Unbound,
+}
+
+// Serves the doors of an address, once the log is taken.
+fn serve_taken<
+    Q: Threads + Wait + Sync,
+    L: Ledger + Send + Sync,
+    K: Sink + Send,
+    I: Source + Send + Drop,
+    O: Sink + Send + Drop,
+    D: Doors<In = I, Out = O>,
+    G: Gate + Sync,
+>(
+    rt: &Q,
+    alloc: Global,
+    settings: &Settings,
+    address: Text,
+    counters: &Counters<L>,
+    hub: &Shared<Work<L>, &Q>,
+    pass: Pass<Work<L>>,
+    unclosed: bool,
+    torn: bool,
+    sink: &mut K,
+    doors: &mut D,
+    gate: &G,
+    workers: u32,
+    sessions: u32,
+) -> Result<Kept, Memory> {
+    let mut pass = pass;
+    let passes = Passes {
+        workers: passes_of(alloc, hub, &mut pass, workers)?,
+        sessions: passes_of(alloc, hub, &mut pass, sessions)?,
+        own: hub.split_pass(&mut pass),
+    };
+    match doors.bind(address) {
+        Ok(()) => {}
+        Err(Failed) => return Ok(Kept::Unbound),
+    }
+    match mend(unclosed, torn, sink) {
+        Ok(()) => {}
+        Err(Failed) => return Ok(Kept::Broken),
+    }
+    let log: Log<'_, Q, Work<L>, Lent<'_, K>, Brand> = Log::new(rt, Lent { sink }, pass);
+    let mut doors = KeptDoors { doors, log: &log };
+    let served = serve_over(
+        rt, alloc, settings, counters, hub, &log, passes, &mut doors, gate,
+    )?;
+    if log.is_whole() {
+        return Ok(Kept::Served(served));
+    }
+    Ok(Kept::Broken)
+}
+
+/// Takes a log from the source up to its end, binds the address, mends the end of the log, and serves the connections that come
+/// by the doors, as `serve` of `cq_listen` does. The line of each accepted change is written to the sink before its reply is
+/// written to its client. Once a line can't be written whole, no change is accepted and no query is answered any more, each
+/// session ends, and no further door is asked for.
+pub fn serve_kept<
+    Q: Threads + Wait + Sync,
+    L: Ledger + Send + Sync,
+    S: Source,
+    K: Sink + Send,
+    I: Source + Send + Drop,
+    O: Sink + Send + Drop,
+    D: Doors<In = I, Out = O>,
+    G: Gate + Sync,
+>(
+    rt: &Q,
+    alloc: Global,
+    settings: &Settings,
+    address: Text,
+    counters: &Counters<L>,
+    source: &mut S,
+    sink: &mut K,
+    doors: &mut D,
+    gate: &G,
+    workers: u32,
+    sessions: u32,
+) -> Result<Kept, Memory>
+    requires in_range { IsInRange settings.now }
+    requires workers { workers ≤ 64 }
+    requires sessions { sessions ≤ 64 }
+    ensures log { IfOk result
+        (EndsKept S.Source K.Sink settings.now source.old source.new sink.old sink.new) }
+{
+    // One caller is the log's, one the calling thread's, one each session's, and one each worker's.
+    let callers = workers + sessions + 2;
+    let made: (Shared<Work<L>, &Q>, Pass<Work<L>>) = Shared::with_first_accepting(
+        rt, alloc, settings, callers,
+    )?;
+    let (hub, pass) = made;
+    let keyer = Keyer::plain(settings);
+    let mut lines = Lines::new(alloc, settings.byte_limit)?;
+    let mut reloaded = Reloaded {
+        settings,
+        keyer: &keyer,
+        hub: &hub,
+        pass,
+    };
+    let taken = take_log(alloc, settings, &mut reloaded, &mut lines, source)?;
+    let Reloaded {
+        settings: _,
+        keyer: _,
+        hub: _,
+        pass,
+    } = reloaded;
+    match taken {
+        Taken::All { unclosed, torn } => serve_taken(
+            rt, alloc, settings, address, counters, &hub, pass, unclosed, torn, sink, doors, gate,
+            workers, sessions,
+        ),
+        Taken::Spent => Ok(Kept::Spent),
+        Taken::Failed => Ok(Kept::ReadFault),
+        Taken::Refused => Ok(Kept::Refused),
+    }
+}

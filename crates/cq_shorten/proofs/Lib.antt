@@ -1,0 +1,6 @@
+mod Deciding
+mod Taking
+mod Easing
+mod Writing
+mod Shorter
+mod Ending
