@@ -89,13 +89,13 @@ module _ {T : Type 0} (Has : T → Settings → List (List ℕ) → List Change 
         whole_held lines line own changes (Read (Ok (request.Change change))) held (was_read set.chunk line (Ok (request.Change change)) short is)
         ∙ ap (λ (b : Bool). if b then Some (front_of (own ++ line ∷ []) (changes ++ change ∷ []) false) else None) accepted
 
-    pub change_taken : TakesOne Has old new line change true → TakesLine Has set false line old new (Some false)
+    pub change_taken : TakesOne Has set old new line change true → TakesLine Has set false line old new (Some false)
     change_taken takes lines has =
-        let more = takes set has.own has.changes has.has in
+        let more = takes has.own has.changes has.has in
         record { own = has.own ++ line ∷ []; changes = has.changes ++ change ∷ []; held = change_held lines has.own has.changes true has.held more.0; has = more.1 }
 
-    pub change_refused : TakesOne Has old new line change false → TakesLine Has set false line old new None
-    change_refused takes lines has = change_held lines has.own has.changes false has.held (takes set has.own has.changes has.has)
+    pub change_refused : TakesOne Has set old new line change false → TakesLine Has set false line old new None
+    change_refused takes lines has = change_held lines has.own has.changes false has.held (takes has.own has.changes has.has)
 
   -- after a line that was cut off
   pub mends : (t : T) → TakesLine Has set true [] t t (Some false)

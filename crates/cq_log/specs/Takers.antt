@@ -26,8 +26,8 @@ module _ {T : Type 0} (Has : T → Settings → List (List ℕ) → List Change 
   TakesAfter new set lines changes line change true = (is_accepted set changes change ≡ true) × Has new set (lines ++ line ∷ []) (changes ++ change ∷ [])
   TakesAfter new set lines changes line change false = is_accepted set changes change ≡ false
 
-  abbrev pub TakesOne : T → T → List ℕ → Change → Bool → Type 0
-  TakesOne old new line change result = (set : Settings) (lines : List (List ℕ)) (changes : List Change) → Has old set lines changes → TakesAfter new set lines changes line change result
+  abbrev pub TakesOne : Settings → T → T → List ℕ → Change → Bool → Type 0
+  TakesOne set old new line change result = (lines : List (List ℕ)) (changes : List Change) → Has old set lines changes → TakesAfter new set lines changes line change result
 
   -- what it has taken is what these lines hold, each change by its line
   pub record HasHeld (set : Settings) (lines : List (List ℕ)) (torn : Bool) (t : T) : Type 0 where

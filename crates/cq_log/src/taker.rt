@@ -1,10 +1,12 @@
-ghost use Rattle.std.specs.Prelude.{ℕ, List, IfOk};
+ghost use Rattle.std.specs.Prelude.{◌≡◌, ℕ, List, IfOk, Ok};
 ghost use Rattle.cq_base.specs.Changes.{IsSoundChange};
 ghost use Rattle.cq_base.specs.declared.change.Change.{Change as Said};
 ghost use Rattle.cq_base.specs.declared.settings.Settings.{Settings};
 ghost use Rattle.cq_log.specs.Takers.{TakesOne};
+ghost use Rattle.cq_request.specs.Reading.{line_says};
+ghost use Rattle.cq_request.specs.declared.request.Request.TheVariants as request;
 
-use cq_base::{Change, Memory};
+use cq_base::{Change, Memory, Settings};
 use std::alloc::Global;
 
 /// Who takes the changes of a log, one after the other.
@@ -14,7 +16,14 @@ pub trait Taker {
 
     /// Takes one change more, which a line says, and answers true; or answers that the change is not accepted. After
     /// `Memory` nothing is known of it.
-    fn take(&mut self, alloc: Global, change: Change, line: &[u8]) -> Result<bool, Memory>
+    fn take(
+        &mut self,
+        alloc: Global,
+        settings: &Settings,
+        change: Change,
+        line: &[u8],
+    ) -> Result<bool, Memory>
         requires sound { IsSoundChange change }
-        ensures takes { IfOk result (TakesOne Has self.old self.new line.now change) };
+        requires says { line_says settings.now.chunk line.now ≡ Ok (request.Change change) }
+        ensures takes { IfOk result (TakesOne Has settings.now self.old self.new line.now change) };
 }

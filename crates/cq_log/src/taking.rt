@@ -39,7 +39,7 @@ fn take_whole<T: Taker>(
     ensures takes { IfOk result (TakesLine T.Has settings.now false line.now taker.old taker.new) }
 {
     match log_line(alloc, settings, line)? {
-        LogLine::Change(change) => match taker.take(alloc, change, line) {
+        LogLine::Change(change) => match taker.take(alloc, settings, change, line) {
             Ok(true) => Ok(Some(false)),
             Ok(false) => Ok(None),
             Err(Memory) => Err(Memory),

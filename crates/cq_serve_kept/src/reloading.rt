@@ -19,7 +19,6 @@ use std::sync::ledger::Ledger;
 /// limit is reached.
 #[derive(Drop)]
 pub(crate) struct Reloaded<'a, L: Ledger, R> {
-    pub settings: &'a Settings,
     pub keyer: &'a Keyer,
     pub hub: &'a Shared<Work<L>, R>,
     pub pass: Pass<Work<L>>,
@@ -32,7 +31,7 @@ impl<'a, L: Ledger, R: Wait> Reloaded<'a, L, R> {
             let Some(job) = self.hub.take(&mut self.pass)? else {
                 break;
             };
-            let work = work_for(alloc, self.settings, self.keyer, job.lang, &job.text)?;
+            let work = work_for(alloc, self.keyer, job.lang, &job.text)?;
             let _finished = self.hub.finish(job.change, work, &mut self.pass);
         }
         Ok(())
@@ -60,28 +59,41 @@ impl<'a, L: Ledger, R: Wait> Reloaded<'a, L, R> {
         }
     }
 
-    // Accepts the change of a line, once all was let go that can be.
-    fn accept_again(&mut self, alloc: Global, line: &[u8]) -> Result<bool, Memory> {
+    // Accepts the change that a line says, once all was let go that can be.
+    fn accept_again(
+        &mut self,
+        alloc: Global,
+        settings: &Settings,
+        line: &[u8],
+    ) -> Result<bool, Memory> {
         self.ease(alloc)?;
-        match read_request(alloc, self.settings, line) {
+        match read_request(alloc, settings, line) {
             Ok(Request::Change(change)) => self.accept(alloc, change),
-            Ok(Request::Query(_query)) => Ok(false),
-            Ok(Request::State) => Ok(false),
+            Ok(Request::Query(_query)) => unreachable!(),
+            Ok(Request::State) => unreachable!(),
             Err(_why) => Err(Memory),
         }
     }
 }
 
 impl<'a, L: Ledger, R: Wait> Taker for Reloaded<'a, L, R> {
+    ghost use Rattle.cq_serve_kept.specs.Reloads.{HasTaken};
+
     ghost Has = { λ taker set lines changes. HasTaken taker.hub.now taker.pass set changes };
 
-    fn take(&mut self, alloc: Global, change: Change, line: &[u8]) -> Result<bool, Memory> {
+    fn take(
+        &mut self,
+        alloc: Global,
+        settings: &Settings,
+        change: Change,
+        line: &[u8],
+    ) -> Result<bool, Memory> {
         match self.hub.accept(alloc, change, &mut self.pass) {
             Ok(_number) => Ok(true),
             Err(Refused::Memory) => Err(Memory),
             Err(Refused::Absent) => Ok(false),
-            Err(Refused::FullChanges) => self.accept_again(alloc, line),
-            Err(Refused::FullText) => self.accept_again(alloc, line),
+            Err(Refused::FullChanges) => self.accept_again(alloc, settings, line),
+            Err(Refused::FullText) => self.accept_again(alloc, settings, line),
         }
     }
 }

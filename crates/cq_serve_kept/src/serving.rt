@@ -128,14 +128,12 @@ pub fn serve_kept<
     let keyer = Keyer::plain(settings);
     let mut lines = Lines::new(alloc, settings.byte_limit)?;
     let mut reloaded = Reloaded {
-        settings,
         keyer: &keyer,
         hub: &hub,
         pass,
     };
     let taken = take_log(alloc, settings, &mut reloaded, &mut lines, source)?;
     let Reloaded {
-        settings: _,
         keyer: _,
         hub: _,
         pass,

@@ -89,7 +89,13 @@ impl Taker for Shortener {
 
     ghost Has = { Has };
 
-    fn take(&mut self, alloc: Global, change: Change, line: &[u8]) -> Result<bool, Memory> {
+    fn take(
+        &mut self,
+        alloc: Global,
+        _settings: &Settings,
+        change: Change,
+        line: &[u8],
+    ) -> Result<bool, Memory> {
         let change = stored(alloc, change)?;
         if self.changes.is_absent(&change)
             || self.changes.is_full()

@@ -1,6 +1,9 @@
 use Rattle.cq_log.proofs.Saying.{cut_off, other_refused, change_taken, change_refused}
 use Rattle.cq_log.proofs.taking.take_whole.Goals as goal
 
+pub take-requires-clause-says : goal.take-requires-clause-says
+take-requires-clause-says g c = rw c.in-Change.is at c.in_ok-change.ensures.is
+
 pub returns-in-Ok-true : goal.returns-in-Ok-true
 returns-in-Ok-true g c = record {
   takes =

@@ -14,7 +14,8 @@ set_floor-requires-clause-low c =
 
 pub returns : goal.returns
 returns c = record {
-  takes = λ set own changes has.
+  takes = λ own changes has.
+      let set = c.args._settings.now in
       let said = change_of c.in_ok-change.change in
       let old = c.args.self.now in
       let at = c.set_floor.new.self in
