@@ -31,8 +31,12 @@ module _ {A F R : Type 0} (line_of : R → List ℕ) (AreReplies : F → A → A
     AnswersOrStops old new line before after (Err e) =
         (from : F) (first : A) (lines : List (List ℕ)) (replies : List R) → AreReplies from first old lines replies → (reply : R) × AreReplies from first new (lines ++ line ∷ []) (replies ++ reply ∷ []) × SendsFront before after (line_of reply)
 
--- unless it stopped, it may be asked again
+    -- it is so, whichever line it was that is too long
+    abbrev pub AnswersLongOrStops : {E : Type 0} → A → A → Option (List ℕ) → Option (List ℕ) → Result (Option C) E → Type 0
+    AnswersLongOrStops old new before after result = (line : List ℕ) → line_limit < length line → AnswersOrStops old new line before after result
+
+-- unless it stopped or the sink failed, it may be asked again
 abbrev pub StaysReady : {C E : Type 0} → Type 0 → Result (Option C) E → Type 0
 StaysReady Ready (Ok None) = Ready
 StaysReady Ready (Ok (Some cause)) = Unit {0}
-StaysReady Ready (Err e) = Ready
+StaysReady Ready (Err e) = Unit {0}

@@ -1,6 +1,6 @@
 ghost use Rattle.std.specs.Prelude.{◌≤◌, ℕ, List, length};
 ghost use Rattle.cq_io.specs.Causes.{HasCause};
-ghost use Rattle.cq_lines.specs.Answering.{AnswersLine, AnswersLong, AnswersOrStops, StaysReady};
+ghost use Rattle.cq_lines.specs.Answering.{AnswersLine, AnswersLong, AnswersLongOrStops, AnswersOrStops, StaysReady};
 ghost use Rattle.cq_lines.specs.Pieces.{HasNoFeed, line_limit};
 
 use cq_io::{Failed, Sink};
@@ -61,7 +61,7 @@ pub trait AnswersUntil {
     // it may be asked
     ghost ready: { Self → Type 0 };
 
-    /// Writes the reply to a line that is not too long, and answers none; or stops at the line.
+    /// Writes the reply to a line that is not too long, and answers none unless it stops there.
     fn answer<K: Sink>(&mut self, line: &[u8], sink: &mut K) -> Result<Option<Self::Stop>, Failed>
         requires ready { ready self.old }
         requires no_feed { HasNoFeed line.now }
@@ -71,11 +71,11 @@ pub trait AnswersUntil {
         ensures ready { StaysReady (ready self.new) result }
         ensures cause { HasCause (K.faults sink.old) (K.faults sink.new) result };
 
-    /// Writes the reply to a line that is too long.
-    fn answer_long<K: Sink>(&mut self, sink: &mut K) -> Result<(), Failed>
+    /// Writes the reply to a line that is too long, and answers none unless it stops there.
+    fn answer_long<K: Sink>(&mut self, sink: &mut K) -> Result<Option<Self::Stop>, Failed>
         requires ready { ready self.old }
-        ensures sent { AnswersLong line_of AreReplies self.old self.new
+        ensures sent { AnswersLongOrStops line_of AreReplies HasStopped self.old self.new
             (K.written sink.old) (K.written sink.new) result }
-        ensures ready { ready self.new }
+        ensures ready { StaysReady (ready self.new) result }
         ensures cause { HasCause (K.faults sink.old) (K.faults sink.new) result };
 }

@@ -1,6 +1,6 @@
-ghost use Rattle.std.specs.Prelude.{◌≡◌, [], IfOk};
+ghost use Rattle.std.specs.Prelude.{◌≡◌, []};
 ghost use Rattle.cq_lines.specs.Runs.{IsFresh};
-ghost use Rattle.cq_lines.specs.Serving.{HasCauseOfEnd, HasCauseUntil, ServesLines, ServesLinesUntil};
+ghost use Rattle.cq_lines.specs.Serving.{IsReadyAfter, IsReadyAt, HasCauseOfEnd, HasCauseUntil, ServesLines, ServesLinesUntil};
 
 use crate::answers::{Answers, AnswersUntil};
 use crate::ending::End;
@@ -23,7 +23,7 @@ pub fn serve_lines_until<A: AnswersUntil, S: Source, K: Sink>(
         → ServesLinesUntil S.Source K.Sink A.line_of (A.AreReplies from answers.old answers.new)
         (A.HasStopped from answers.old answers.new)
         lines.old.limit source.old source.new sink.old sink.new result }
-    ensures ready { IfOk result (λ by. A.ready answers.new) }
+    ensures ready { IsReadyAfter (A.ready answers.new) result }
     ensures cause { HasCauseUntil S.Source K.Sink source.old source.new sink.old sink.new result }
     ensures limit { lines.new.limit ≡ lines.old.limit }
 {
@@ -35,7 +35,8 @@ pub fn serve_lines_until<A: AnswersUntil, S: Source, K: Sink>(
                 Err(Failed) => return Ok(End::WriteFault),
             },
             Cut::TooLong => match answers.answer_long(sink) {
-                Ok(()) => {}
+                Ok(None) => {}
+                Ok(Some(cause)) => return Err(cause),
                 Err(Failed) => return Ok(End::WriteFault),
             },
             Cut::End => return Ok(End::Finished),
@@ -74,8 +75,11 @@ impl<'a, A: Answers> AnswersUntil for Unstopped<'a, A> {
         }
     }
 
-    fn answer_long<K: Sink>(&mut self, sink: &mut K) -> Result<(), Failed> {
-        self.answers.answer_long(sink)
+    fn answer_long<K: Sink>(&mut self, sink: &mut K) -> Result<Option<Infallible>, Failed> {
+        match self.answers.answer_long(sink) {
+            Ok(()) => Ok(None),
+            Err(Failed) => Err(Failed),
+        }
     }
 }
 
@@ -91,7 +95,7 @@ pub fn serve_lines<A: Answers, S: Source, K: Sink>(
     ensures served { (from : A.Beginning) → A.AreReplies from answers.old answers.old [] []
         → ServesLines S.Source K.Sink A.line_of (A.AreReplies from answers.old answers.new)
         lines.old.limit source.old source.new sink.old sink.new result }
-    ensures ready { A.ready answers.new }
+    ensures ready { IsReadyAt (A.ready answers.new) result }
     ensures cause { HasCauseOfEnd S.Source K.Sink source.old source.new sink.old sink.new result }
     ensures limit { lines.new.limit ≡ lines.old.limit }
 {

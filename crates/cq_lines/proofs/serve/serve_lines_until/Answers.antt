@@ -67,24 +67,40 @@ returns-in-Err-clause-served g c =
     let (reply, are, (front, more, parts, sent)) = c.in-Err.ensures.sent from c.args.answers.now so.lines so.replied.replies so.replied.talk in
     write_failed g.A.AnswersUntil.line_of (g.A.AnswersUntil.AreReplies from c.args.answers.now c.lines.answers) (g.A.AnswersUntil.AreReplies from c.args.answers.now c.answer.new.self) _ _ _ _ _ _ _ _ _ cuts.got c.in-Line.line.now reply so cuts.bytes cuts.taken cuts.within cuts.limit (λ e. (cuts.stays e).0) cuts.finds.1 (λ talk. are) front more parts sent
 
-pub lines-smaller : goal.lines-smaller
-lines-smaller g c =
+pub lines-smaller-in-Ok-None-answer_long : goal.lines-smaller-in-Ok-None-answer_long
+lines-smaller-in-Ok-None-answer_long g c =
     let cuts = rw c.in-TooLong.is at c.next.follows.holds-at-none in
     fewer _ c.lines.lines c.next.follows.lender-at-none _ _ cuts.taken cuts.within cuts.limit cuts.finds.2
 
-pub lines-preserved : goal.lines-preserved
-lines-preserved g c =
+pub lines-preserved-in-Ok-None-answer_long : goal.lines-preserved-in-Ok-None-answer_long
+lines-preserved-in-Ok-None-answer_long g c =
     let cuts = rw c.in-TooLong.is at c.next.follows.holds-at-none in
     record {
       goes = λ from begins.
           let so = c.lines.invariant.goes from begins in
-          let said = c.in-Ok-answer_long.ensures.sent cuts.finds.0 cuts.finds.1 from c.args.answers.now so.lines so.replied.replies so.replied.talk in
+          let said = (rw c.in-Ok-None-answer_long.field-0-is at c.in-Ok-None-answer_long.ensures.sent) cuts.finds.0 cuts.finds.1 from c.args.answers.now so.lines so.replied.replies so.replied.talk in
           replied_more g.A.AnswersUntil.line_of (g.A.AnswersUntil.AreReplies from c.args.answers.now c.lines.answers) (g.A.AnswersUntil.AreReplies from c.args.answers.now c.answer_long.new.self) _ _ _ _ _ _ _ _ _ cuts.got cuts.finds.0 said.0 so cuts.bytes cuts.taken cuts.within cuts.limit (λ e. (cuts.stays e).0) cuts.finds.2 (λ talk. said.1) said.2;
-      ready = c.in-Ok-answer_long.ensures.ready;
+      ready = rw c.in-Ok-None-answer_long.field-0-is at c.in-Ok-None-answer_long.ensures.ready;
       source_faults = c.in-TooLong.ensures.cause ∙ c.lines.invariant.source_faults;
-      sink_faults = c.in-Ok-answer_long.ensures.cause.kept ∙ c.lines.invariant.sink_faults;
+      sink_faults = c.in-Ok-None-answer_long.ensures.cause.kept ∙ c.lines.invariant.sink_faults;
       limit = cuts.limit ∙ c.lines.invariant.limit;
     }
+
+pub returns-in-Ok-Some-answer_long-clause-served : goal.returns-in-Ok-Some-answer_long-clause-served
+returns-in-Ok-Some-answer_long-clause-served g c =
+    let cuts = rw c.in-TooLong.is at c.next.follows.holds-at-none in
+    λ from begins.
+    let so = c.lines.invariant.goes from begins in
+    let (more, is, sent) = (rw c.in-Ok-Some-answer_long.field-0-is at c.in-Ok-Some-answer_long.ensures.sent) cuts.finds.0 cuts.finds.1 from c.args.answers.now so.lines so.replied.replies so.replied.talk in
+    stopped g.A.AnswersUntil.line_of (g.A.AnswersUntil.AreReplies from c.args.answers.now c.lines.answers) (g.A.AnswersUntil.HasStopped from c.args.answers.now c.answer_long.new.self) _ _ _ _ _ _ _ _ _ cuts.got cuts.finds.0 more c.in-Ok-Some-answer_long.cause so cuts.bytes cuts.taken cuts.within cuts.limit (λ e. (cuts.stays e).0) cuts.finds.2 is sent
+
+pub returns-in-Ok-Some-answer_long-clause-cause : goal.returns-in-Ok-Some-answer_long-clause-cause
+returns-in-Ok-Some-answer_long-clause-cause g c = (c.in-TooLong.ensures.cause ∙ c.lines.invariant.source_faults, c.in-Ok-Some-answer_long.ensures.cause.kept ∙ c.lines.invariant.sink_faults)
+
+pub returns-in-Ok-Some-answer_long-clause-limit : goal.returns-in-Ok-Some-answer_long-clause-limit
+returns-in-Ok-Some-answer_long-clause-limit g c =
+    let cuts = rw c.in-TooLong.is at c.next.follows.holds-at-none in
+    cuts.limit ∙ c.lines.invariant.limit
 
 pub returns-in-Err-answer_long-clause-served : goal.returns-in-Err-answer_long-clause-served
 returns-in-Err-answer_long-clause-served g c =
