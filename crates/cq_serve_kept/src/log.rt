@@ -45,7 +45,7 @@ impl<'a, Q: Wait, W: Indexed, K: Sink + Drop, N: LogOf> Log<'a, Q, W, K, N> {
 
 impl<'a, Q: Wait, W: Indexed, K: Sink + Drop, N: LogOf, R: Wait> Keeper<W, Shared<W, R>>
     for Log<'a, Q, W, K, N> {
-    ghost use Rattle.std.specs.Prelude.{◌≡◌, Unit};
+    ghost use Rattle.std.specs.Prelude.{◌≡◌, true};
     ghost use Rattle.cq_keeper.specs.Kept.{first_caller};
     ghost use Rattle.cq_shared.specs.SharedPasses.{cells_of};
 
@@ -54,6 +54,12 @@ impl<'a, Q: Wait, W: Indexed, K: Sink + Drop, N: LogOf, R: Wait> Keeper<W, Share
     ghost Keeps = { λ keeper hub. cells_of hub ≡ N.cells };
 
     ghost Breaks = { λ keeper. Unit {0} };
+
+    ghost strict = { λ keeper. true };
+
+    fn is_strict(&self) -> bool {
+        true
+    }
 
     fn accept(
         &self,

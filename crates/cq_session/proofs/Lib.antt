@@ -10,4 +10,5 @@ pub mod OneView
 pub mod InView
 pub mod QueryLeads
 pub mod Talking
+pub mod Clients
 pub mod Turns

@@ -1,20 +1,23 @@
 -- One more line of a talk.
-use Rattle.std.proofs.Common.{◌≡◌, ℕ, ◌≤◌, List, [], ◌∷◌, ◌++◌, length, map, max, Option, Some, None, Result, Ok, Err, refl, sym, ap, ◌∙◌, subst}
+use Rattle.std.proofs.Common.{◌≡◌, ℕ, ◌≤◌, List, [], ◌∷◌, ◌++◌, length, flat_map, map, max, Bool, true, false, Option, Some, None, Ok, refl, sym, ap, ◌∙◌, subst, true≢false}
+use Rattle.std.proofs.KnownBytes.{Appends-nil}
 use Rattle.std.proofs.lemmas.List.{append-nil, map-append}
+use Rattle.std.specs.Io.KnownBytes.{Appends}
 use Rattle.cq_base.specs.declared.settings.Settings.{Settings}
 use Rattle.cq_history.specs.declared.event.Event.{Event}
 use Rattle.cq_history.specs.State.{accepted}
 use Rattle.cq_history.specs.Lawful.{Lawful}
-use Rattle.cq_lines.specs.Answering.{AnswersOrStops, StaysReady}
 use Rattle.cq_reply.specs.Written.{line_of}
 use Rattle.cq_reply.specs.declared.reply.Reply.{Reply}
 use Rattle.cq_talk.specs.Replies.{named}
 use Rattle.cq_talk.specs.Said.{Said, said}
 use Rattle.cq_talk.specs.Talk.{AnswersBy, Waits}
-use Rattle.cq_session.specs.Costs.{AreAllViewings, AreViewings, counted, Spends}
-use Rattle.cq_session.specs.Overs.{StoppedTalk}
+use Rattle.cq_session.specs.Clients.{IsObject, is_known, stop_after}
+use Rattle.cq_session.specs.Costs.{AreAllViewings, AreViewings, Counts, counted, Spends}
+use Rattle.cq_hub.specs.declared.hub.Hub.{Ghosts}
+use Rattle.cq_session.specs.Overs.{MayStop, StoppedTalk, Turned}
 use Rattle.cq_session.specs.Serving.{SeenTalk}
-use Rattle.cq_session.specs.Turn.{IsTalkBy}
+use Rattle.cq_session.specs.Turn.{IsTalkBy, Turns}
 use Rattle.cq_session.specs.declared.stop.Stop.{Stop}
 use Rattle.cq_session.specs.declared.stop.Stop.TheVariants as stop
 use Rattle.cq_talk.proofs.Talking.{named_few, seen_more}
@@ -45,29 +48,69 @@ module _ (set : Settings) (callers : ℕ) (alone : Type 0) (c by : ℕ) (h : Lis
     pub still_within : Lawful set callers after → seen ≤ length (accepted now) → seen_now ≤ length (accepted after)
     still_within law within = subst (λ (n : ℕ). n ≤ length (accepted after)) (sym is) (named_few set callers alone c by seen now after (said set.chunk line) r law within answers)
 
-  -- the same for each way in which a session may stop at a line: the lines before it have their replies, and no reply came of it
-  pub stops_at : (now after : List Event) (reads reads_now asked asked_now seen : ℕ) (lines : List (List ℕ)) (replies : List Reply) (line : List ℕ) (why : Stop) → SeenTalk set callers alone c by h (counted reads reads_now asked asked_now) now seen lines replies
-      → Waits alone c now after → StoppedTalk set callers alone c by h after (lines ++ line ∷ []) (replies ++ []) why
-  stops_at now after reads reads_now asked asked_now seen lines replies line stop.Unkept was waits = record {
-    first = lines;
-    last = line;
-    lines_are = refl;
-    then = now;
-    talk = subst (λ (rs : List Reply). IsTalkBy set callers alone c by h now lines rs) (sym (append-nil replies)) was.talk.talk;
-    waits = waits;
-  }
+  -- no line has no reply
+  none_told : (now : List Event) (lines : List (List ℕ)) (replies : List Reply) → lines ≡ [] → IsTalkBy set callers alone c by h now lines replies → replies ≡ []
+  none_told now [] [] none talk = refl
+  none_told now [] (r ∷ replies) none talk = absurd talk
+  none_told now (line ∷ lines) replies none talk = absurd (cc)
 
--- an answer by how the turn ended
-module _ {A F E : Type 0} (AreReplies : F → A → A → List (List ℕ) → List Reply → Type 0) (HasStopped : F → A → A → List (List ℕ) → List Reply → Stop → Type 0) (old new : A) (line : List ℕ) (before after : Option (List ℕ)) where
-  abbrev Answered : Result (Option Stop) E → Type 0
-  Answered = AnswersOrStops line_of AreReplies HasStopped old new line before after
+  -- the session stopped at a line: the replies that came of it were sent
+  pub record StopsHere (after : List Event) (lines : List (List ℕ)) (replies : List Reply) (before written_now : Option (List ℕ)) (why : Stop) : Type 0 where
+    pub more : List Reply
+    pub stopped : StoppedTalk set callers alone c by h after lines (replies ++ more) why
+    pub sent : Appends before written_now (flat_map line_of more)
 
-  pub answered_by : (result : Result (Option Stop) E) → (result ≡ Ok None → Answered (Ok None)) → ((why : Stop) → result ≡ Ok (Some why) → Answered (Ok (Some why))) → ((e : E) → result ≡ Err e → Answered (Err e)) → Answered result
-  answered_by (Ok None) sent stopped failed = sent refl
-  answered_by (Ok (Some why)) sent stopped failed = stopped why refl
-  answered_by (Err e) sent stopped failed = failed e refl
+  module _ (now after : List Event) (n : Counts) (seen : ℕ) (lines : List (List ℕ)) (replies : List Reply) (line : List ℕ) (before written_now : Option (List ℕ)) (was : SeenTalk set callers alone c by h n now seen lines replies) where
+    -- since a line could not be kept
+    pub breaks_off : Waits alone c now after → written_now ≡ before → StopsHere after (lines ++ line ∷ []) replies before written_now stop.Unkept
+    breaks_off waits nothing = record {
+      more = [];
+      stopped = record {
+        first = lines;
+        last = line;
+        lines_are = refl;
+        then = now;
+        talk = subst (λ (rs : List Reply). IsTalkBy set callers alone c by h now lines rs) (sym (append-nil replies)) was.talk.talk;
+        waits = waits;
+      };
+      sent = subst (λ (w : Option (List ℕ)). Appends before w []) (sym nothing) (Appends-nil before);
+    }
 
-pub ready_by : {C E Ready : Type 0} (result : Result (Option C) E) → (result ≡ Ok None → Ready) → ((e : E) → result ≡ Err e → Ready) → StaysReady Ready result
-ready_by (Ok None) sent failed = sent refl
-ready_by (Ok (Some cause)) sent failed = tt
-ready_by (Err e) sent failed = failed e refl
+    -- since it is the first one, and is not known to be a JSON object
+    pub turned_away : (r : Reply) → lines ≡ [] → is_known r ≡ false → AnswersBy set callers alone c by seen now (said set.chunk line) r after → Appends before written_now (line_of r) → StopsHere after (lines ++ line ∷ []) replies before written_now stop.Stranger
+    turned_away r none unknown answers sent = record {
+      more = r ∷ [];
+      stopped = record {
+        line = line;
+        lines_are = ap (λ (ls : List (List ℕ)). ls ++ line ∷ []) none;
+        reply = r;
+        replies_are = ap (λ (rs : List Reply). rs ++ r ∷ []) (none_told now lines replies none was.talk.talk);
+        unknown = unknown;
+        talk = talk_more set callers alone c by seen h now after lines replies line r was.seen_is was.talk.talk answers;
+      };
+      sent = subst (λ (bytes : List ℕ). Appends before written_now bytes) (sym (append-nil (line_of r))) sent;
+    }
+
+-- ---- a turn, by whether the session stops there
+
+module _ {H W P : Type 0} (of : Ghosts H W P) (hub : H) (old new : P) (reads reads_now seen : ℕ) (acceptor : ℕ → ℕ) (set : Settings) (line : List ℕ) (before written_now : Option (List ℕ)) (seen_now c : ℕ) (h after : List Event) {E : Type 0} where
+  abbrev Sent : Type 0
+  Sent = Turns set (of.callers hub) of.alone c (acceptor c) seen h (counted reads reads_now (of.asked old) (of.asked new)) line (Appends before written_now) seen_now after
+
+  abbrev Ends : Bool → Bool → Option Stop → Type 0
+  Ends strict first o = Turned of hub old new reads reads_now {E = E} seen strict acceptor set first line before written_now (Ok o) seen_now c h after
+
+  turned_as : (strict first known : Bool) (turns : Sent) → known ≡ is_known turns.reply → (is_known turns.reply ≡ true → IsObject (said set.chunk line)) → Ends strict first (stop_after strict first known)
+  turned_as false first known turns is object = (turns, λ strictly. absurd (true≢false (sym strictly)))
+  turned_as true false known turns is object = (turns, λ strictly here. absurd (true≢false (sym here)))
+  turned_as true true true turns is object = (turns, λ strictly here. object (sym is))
+  turned_as true true false turns is object = (turns, refl, sym is)
+
+  pub turned_by : (strict first known : Bool) (o : Option Stop) → o ≡ stop_after strict first known → (turns : Sent) → known ≡ is_known turns.reply → (is_known turns.reply ≡ true → IsObject (said set.chunk line)) → Ends strict first o
+  turned_by strict first known o same turns is object = subst (λ (o : Option Stop). Ends strict first o) (sym same) (turned_as strict first known turns is object)
+
+  -- where it stopped, after a talk
+  pub stopped_by : (Breaks : Type 0) (strict first : Bool) (why : Stop) (begun : List Event) (n : Counts) (lines : List (List ℕ)) (replies : List Reply) → SeenTalk set (of.callers hub) of.alone c (acceptor c) begun n h seen lines replies
+      → MayStop Breaks strict why → (strict ≡ true → first ≡ true → lines ≡ []) → Ends strict first (Some why) → StopsHere set (of.callers hub) of.alone c (acceptor c) begun after (lines ++ line ∷ []) replies before written_now why
+  stopped_by Breaks strict first stop.Unkept begun n lines replies was may none ends = breaks_off set (of.callers hub) of.alone c (acceptor c) begun h after n seen lines replies line before written_now was ends.0 ends.1
+  stopped_by Breaks strict first stop.Stranger begun n lines replies was may none ends = turned_away set (of.callers hub) of.alone c (acceptor c) begun h after n seen lines replies line before written_now was ends.0.reply (none may ends.1) ends.2 ends.0.answers ends.0.sends

@@ -3,6 +3,7 @@ pub mod Moving
 pub mod Projects
 pub mod Costs
 pub mod Viewing
+pub mod Clients
 pub mod Turn
 pub mod Passes
 pub mod Keeping

@@ -1,4 +1,4 @@
-ghost use Rattle.std.specs.Prelude.{◌≡◌, ℕ, Err, IfOk, IfErr, IfSome, IsNone};
+ghost use Rattle.std.specs.Prelude.{◌≡◌, ℕ, Bool, Err, IfOk, IfErr, IfSome, IsNone};
 ghost use Rattle.cq_base.specs.Changes.{IsSoundChange};
 ghost use Rattle.cq_hub.specs.Answers.{IsTold};
 ghost use Rattle.cq_hub.specs.Hubs.{IsPassOf};
@@ -23,6 +23,13 @@ pub trait Keeper<W: Indexed, H: Hub<W>> {
 
     // a line may fail to be written
     ghost Breaks: { Self → Type 0 };
+
+    // a session ends after a first line that is no JSON object
+    ghost strict: { Self → Bool };
+
+    /// Whether a session ends after a first line that is no JSON object. A browser's first line is none, so it has no second.
+    fn is_strict(&self) -> bool
+        ensures { result ≡ strict self.now };
 
     /// Accepts a change that a line says, keeps the line, and answers the number of the change. After `Broken` the change may
     /// be accepted, but nobody is told.
@@ -60,6 +67,7 @@ pub trait Keeper<W: Indexed, H: Hub<W>> {
 pub struct NoLog;
 
 impl<W: Indexed, H: Hub<W>> Keeper<W, H> for NoLog {
+    ghost use Rattle.std.specs.Prelude.{false};
     ghost use Rattle.cq_session.specs.Keeping.{itself};
 
     ghost acceptor = { λ keeper. itself };
@@ -67,6 +75,12 @@ impl<W: Indexed, H: Hub<W>> Keeper<W, H> for NoLog {
     ghost Keeps = { λ keeper hub. Unit {0} };
 
     ghost Breaks = { λ keeper. ⊥ };
+
+    ghost strict = { λ keeper. false };
+
+    fn is_strict(&self) -> bool {
+        false
+    }
 
     fn accept(
         &self,

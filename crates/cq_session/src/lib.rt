@@ -13,6 +13,7 @@ mod answering;
 mod buckets;
 mod helping;
 mod keeper;
+mod met;
 mod project;
 mod server;
 mod serving;

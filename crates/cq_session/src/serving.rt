@@ -9,6 +9,7 @@ ghost use Rattle.cq_session.specs.Keeping.{itself};
 ghost use Rattle.cq_session.specs.Overs.{HasSentOrStopped, HasServedUntil, MayStop};
 ghost use Rattle.cq_session.specs.Passes.{HasAccepted, HasServed};
 
+use crate::met::{Met, meet, stop_of};
 use crate::telling::told;
 use crate::{Keeper, NoLog, Server, Stop};
 use cq_base::Steps;
@@ -20,12 +21,13 @@ use cq_work::Work;
 use std::sync::ledger::Ledger;
 use std::thread::Threads;
 
-// Writes the reply to a line, which is not too long, and answers none. What the reply names is seen from then on. If a line
-// could not be kept, it writes nothing, and answers that.
+// Writes the reply to a line, which is not too long, and answers whether the session stops there. What the reply names is
+// seen from then on. If a line could not be kept, nothing is written.
 fn turn<R: Threads + Sync, L: Ledger, H: Hub<Work<L>>, P: Keeper<Work<L>, H>, K: Sink, G: Gate>(
     rt: &R,
     server: &Server<'_, H, P, G>,
     line: &[u8],
+    first: bool,
     seen: &mut u64,
     pass: &mut H::Pass,
     sink: &mut K,
@@ -38,17 +40,19 @@ fn turn<R: Threads + Sync, L: Ledger, H: Hub<Work<L>>, P: Keeper<Work<L>, H>, K:
     requires short { length line.now ≤ line_limit }
     requires closed { HasAccepted H.Hub server.now.hub.now pass.old seen.old }
     ensures turns { HasSentOrStopped H.Hub server.now.hub.now pass.old pass.new steps.old steps.new
-        seen.old (P.acceptor server.now.keeper.now) server.now.keyer.now.settings line.now
+        seen.old (P.strict server.now.keeper.now) (P.acceptor server.now.keeper.now)
+        server.now.keyer.now.settings first line.now
         (K.written sink.old) (K.written sink.new) result seen.new }
-    ensures broken { IfOk result (λ why. IfSome why (MayStop (P.Breaks server.now.keeper.now))) }
+    ensures may { IfOk result (λ why. IfSome why
+        (MayStop (P.Breaks server.now.keeper.now) (P.strict server.now.keeper.now))) }
     ensures cause { HasCause (K.faults sink.old) (K.faults sink.new) result }
 {
-    let Some((line, number)) = told(rt, server, line, *seen, pass, steps) else {
+    let Some(told) = told(rt, server, line, *seen, pass, steps) else {
         return Ok(Some(Stop::Unkept));
     };
-    *seen = (*seen).max(number);
-    match send(sink, line.as_bytes()) {
-        Ok(()) => Ok(None),
+    *seen = (*seen).max(told.number);
+    match send(sink, told.line.as_bytes()) {
+        Ok(()) => Ok(stop_of(server.keeper, first, told.known)),
         Err(Failed) => Err(Failed),
     }
 }
@@ -60,6 +64,7 @@ struct Talk<'a, 's, 'p, 'c, R, L: Ledger, H: Hub<Work<L>>, P, G> {
     rt: &'a R,
     server: &'a Server<'s, H, P, G>,
     pass: &'p mut H::Pass,
+    met: Met,
     seen: u64,
     steps: &'c mut Steps<L>,
 }
@@ -75,12 +80,13 @@ impl<
     P: Keeper<Work<L>, H>,
     G: Gate,
 > AnswersUntil for Talk<'a, 's, 'p, 'c, R, L, H, P, G> {
-    ghost use Rattle.std.specs.Prelude.{◌≡◌, ℕ, List};
+    ghost use Rattle.std.specs.Prelude.{◌≡◌, ℕ, List, true};
     ghost use Rattle.std.specs.Thread.{IsSync};
     ghost use Rattle.cq_base.specs.Settings.{IsInRange};
     ghost use Rattle.cq_history.specs.declared.event.Event.{Event as Happened};
     ghost use Rattle.cq_reply.specs.Written.{line_of as written};
     ghost use Rattle.cq_reply.specs.declared.reply.Reply.{Reply as Told};
+    ghost use Rattle.cq_session.specs.Clients.{HasMet, MayGoOn};
     ghost use Rattle.cq_session.specs.Costs.{counted};
     ghost use Rattle.cq_session.specs.Overs.{MayStop};
     ghost use Rattle.cq_session.specs.Passes.{HasAccepted};
@@ -99,6 +105,7 @@ impl<
         (P.acceptor now.server.now.keeper.now) from
         (counted first.steps.now now.steps.now (H.asked first.pass.now) (H.asked now.pass.now))
         now.pass.now now.seen lines replies
+        × (P.strict now.server.now.keeper.now ≡ true → HasMet now.server.now.keyer.now.settings.chunk now.met lines)
         × (now.server.now.keyer.now.settings ≡ first.server.now.keyer.now.settings) × (now.server.now.hub.now ≡ first.server.now.hub.now)
         × (now.server.now.keeper.now ≡ first.server.now.keeper.now) };
 
@@ -107,32 +114,52 @@ impl<
         (P.acceptor now.server.now.keeper.now) from now.pass.now lines replies why
         × (now.server.now.keyer.now.settings ≡ first.server.now.keyer.now.settings) × (now.server.now.hub.now ≡ first.server.now.hub.now)
         × (now.server.now.keeper.now ≡ first.server.now.keeper.now)
-        × MayStop (P.Breaks now.server.now.keeper.now) why };
+        × MayStop (P.Breaks now.server.now.keeper.now) (P.strict now.server.now.keeper.now) why };
 
     ghost ready = { λ t. IsSync R.row × IsInRange t.server.now.keyer.now.settings
         × (H.settings t.server.now.hub.now ≡ t.server.now.keyer.now.settings)
         × P.Keeps t.server.now.keeper.now t.server.now.hub.now
+        × MayGoOn t.met
         × HasAccepted H.Hub t.server.now.hub.now t.pass.now t.seen };
 
     fn answer<K: Sink>(&mut self, line: &[u8], sink: &mut K) -> Result<Option<Stop>, Failed> {
-        turn(
+        let first = meet(&mut self.met);
+        match turn(
             self.rt,
             self.server,
             line,
+            first,
             &mut self.seen,
             self.pass,
             sink,
             self.steps,
-        )
+        ) {
+            Ok(None) => {
+                self.met = Met::Client;
+                Ok(None)
+            }
+            Ok(Some(why)) => Ok(Some(why)),
+            Err(Failed) => Err(Failed),
+        }
     }
 
-    fn answer_long<K: Sink>(&mut self, sink: &mut K) -> Result<(), Failed> {
-        send(sink, fixed(Short::Long).as_bytes())
+    fn answer_long<K: Sink>(&mut self, sink: &mut K) -> Result<Option<Stop>, Failed> {
+        let first = meet(&mut self.met);
+        match send(sink, fixed(Short::Long).as_bytes()) {
+            Ok(()) => match stop_of(self.server.keeper, first, false) {
+                None => {
+                    self.met = Met::Client;
+                    Ok(None)
+                }
+                Some(why) => Ok(Some(why)),
+            },
+            Err(Failed) => Err(Failed),
+        }
     }
 }
 
 /// Answers the lines of a source one by one by calls of a hub, whose pass has no view open. Windows have the keys of
-/// `keyer`. A change is accepted by the keeper, which keeps its line before its reply is written; and no version is shown
+/// `keyer`. If the keeper is strict, and the first line is no JSON object, its reply is the last. A change is accepted by the keeper, which keeps its line before its reply is written; and no version is shown
 /// with a change whose line is not kept. Each whole reply is handed to the sink before the next line is cut. Afterwards the
 /// pass stands for the history to which the talk came, with no view open. Behind each answer by a view, and before it is
 /// written, the hub is swept; want of memory there is let go. The gate is told of each accepted change, of each work before
@@ -161,9 +188,10 @@ pub fn kept_session<
     requires keeps { P.Keeps server.now.keeper.now server.now.hub.now }
     requires closed { MayLead H.Stands (H.callers server.now.hub.now) server.now.hub.now pass.old Always }
     ensures served { HasServedUntil H.Hub server.now.hub.now pass.old pass.new steps.old steps.new
-        (P.acceptor server.now.keeper.now) S.Source K.Sink server.now.keyer.now.settings
-        lines.old.limit source.old source.new sink.old sink.new result }
-    ensures broken { IfErr result (MayStop (P.Breaks server.now.keeper.now)) }
+        (P.strict server.now.keeper.now) (P.acceptor server.now.keeper.now)
+        S.Source K.Sink server.now.keyer.now.settings lines.old.limit source.old source.new sink.old sink.new result }
+    ensures may { IfErr result
+        (MayStop (P.Breaks server.now.keeper.now) (P.strict server.now.keeper.now)) }
     ensures cause { HasCauseUntil S.Source K.Sink source.old source.new sink.old sink.new result }
     ensures limit { lines.new.limit ≡ lines.old.limit }
 {
@@ -171,6 +199,7 @@ pub fn kept_session<
         rt,
         server,
         pass,
+        met: Met::Nobody,
         seen: 0,
         steps,
     };
@@ -199,5 +228,6 @@ pub fn session<R: Threads + Sync, L: Ledger, H: Hub<Work<L>>, S: Source, K: Sink
     match kept_session(rt, server, pass, lines, source, sink, steps) {
         Ok(end) => end,
         Err(Stop::Unkept) => unreachable!(),
+        Err(Stop::Stranger) => unreachable!(),
     }
 }

@@ -3,4 +3,6 @@
 pub enum Stop {
     /// A line could not be kept, its own or that of another session: it has no reply.
     Unkept,
+    /// The first line is no JSON object, as a browser's is none, or could not be read: it has its reply.
+    Stranger,
 }

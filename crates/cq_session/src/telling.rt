@@ -1,7 +1,11 @@
-ghost use Rattle.std.specs.Prelude.{◌≡◌, ◌≤◌, length, IfSome};
+ghost use Rattle.std.specs.Prelude.{◌≡◌, ◌≤◌, false, length, IfSome};
 ghost use Rattle.cq_base.specs.Settings.{IsInRange};
 ghost use Rattle.cq_lines.specs.Pieces.{HasNoFeed, line_limit};
+ghost use Rattle.cq_reply.specs.Lines.{bytes_of};
+ghost use Rattle.cq_reply.specs.Written.{line_of as line_in};
+ghost use Rattle.cq_reply.specs.declared.reply.Reply.TheVariants as reply;
 ghost use Rattle.cq_talk.specs.Replies.{named as named_in};
+ghost use Rattle.cq_session.specs.Clients.{is_known as known_in};
 ghost use Rattle.cq_session.specs.Keeping.{IsBroken};
 ghost use Rattle.cq_session.specs.Passes.{HasAccepted, HasLine, HasWaited};
 
@@ -31,7 +35,42 @@ fn named(reply: &Reply) -> u64
     }
 }
 
-/// The line that tells the reply to a line, and the number that the reply names; none if a line could not be kept.
+// Whether a reply shows that its line was read, and is a JSON object.
+fn is_known(reply: &Reply) -> bool
+    ensures { result ≡ known_in reply.now }
+{
+    match reply {
+        Reply::Json => false,
+        Reply::Long => false,
+        Reply::Memory => false,
+        _ => true,
+    }
+}
+
+/// A reply, as it is told.
+#[derive(Drop)]
+pub(crate) struct Told {
+    pub line: Line,
+    /// The number that it names, or 0.
+    pub number: u64,
+    /// It shows that the line that it answers was read, and is a JSON object.
+    pub known: bool,
+}
+
+// A reply for which there is no memory.
+fn told_memory() -> Told
+    ensures bytes { bytes_of result.line ≡ line_in reply.Memory }
+    ensures number { result.number ≡ 0 }
+    ensures known { result.known ≡ false }
+{
+    Told {
+        line: Line::Short(fixed(Short::Memory)),
+        number: 0,
+        known: false,
+    }
+}
+
+/// The reply to a line; none if a line could not be kept.
 pub(crate) fn told<R: Threads + Sync, L: Ledger, H: Hub<Work<L>>, P: Keeper<Work<L>, H>, G: Gate>(
     rt: &R,
     server: &Server<'_, H, P, G>,
@@ -39,7 +78,7 @@ pub(crate) fn told<R: Threads + Sync, L: Ledger, H: Hub<Work<L>>, P: Keeper<Work
     seen: u64,
     pass: &mut H::Pass,
     steps: &mut Steps<L>,
-) -> Option<(Line, u64)>
+) -> Option<Told>
     requires in_range { IsInRange server.now.keyer.now.settings }
     requires hub_settings { H.settings server.now.hub.now ≡ server.now.keyer.now.settings }
     requires keeps { P.Keeps server.now.keeper.now server.now.hub.now }
@@ -53,10 +92,14 @@ pub(crate) fn told<R: Threads + Sync, L: Ledger, H: Hub<Work<L>>, P: Keeper<Work
 {
     match reply_to(rt, server, line, seen, pass, steps) {
         Ok(Some(reply)) => match line_of(server.alloc, &reply) {
-            Ok(line) => Some((line, named(&reply))),
-            Err(Memory) => Some((Line::Short(fixed(Short::Memory)), 0)),
+            Ok(line) => Some(Told {
+                line,
+                number: named(&reply),
+                known: is_known(&reply),
+            }),
+            Err(Memory) => Some(told_memory()),
         },
         Ok(None) => None,
-        Err(Memory) => Some((Line::Short(fixed(Short::Memory)), 0)),
+        Err(Memory) => Some(told_memory()),
     }
 }
