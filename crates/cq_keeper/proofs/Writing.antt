@@ -1,9 +1,8 @@
 -- What the log has, a change or a refusal later.
-use Rattle.std.proofs.Common.{◌≡◌, ℕ, ◌≤◌, true, false, List, [], ◌∷◌, ◌++◌, length, drop, Option, refl, sym, ap, ◌∙◌, subst, arith, append-nil, length-append, true≢false}
+use Rattle.std.proofs.Common.{◌≡◌, ℕ, true, false, List, [], ◌∷◌, ◌++◌, refl, sym, ap, ◌∙◌, subst, append-nil, append_assoc, true≢false}
 use Rattle.std.specs.Prelude.{flat_map}
 use Rattle.std.proofs.KnownBytes.{Appends-trans}
 use Rattle.std.proofs.lemmas.Grind.{flat_map-append}
-use Rattle.std.proofs.lemmas.List.{drop-append-le}
 use Rattle.std.specs.Io.KnownBytes.{Appends}
 use Rattle.cq_base.specs.declared.change.Change.{Change}
 use Rattle.cq_cells.specs.Passes.{IsFree, by_of}
@@ -12,11 +11,10 @@ use Rattle.cq_chain.specs.Passes.{BoardPass}
 use Rattle.cq_history.specs.State.{accepted}
 use Rattle.cq_io.specs.Causes.{Rose}
 use Rattle.cq_io.specs.declared.sink.Sink as sink
-use Rattle.cq_keep.specs.LineLogs.{KeepsLine, BreaksOff}
+use Rattle.cq_keep.specs.LineLogs.{BreaksOff, KeepsLine, Logged}
 use Rattle.cq_keep.specs.Saying.{Says}
-use Rattle.cq_keep.specs.declared.line_log.LineLog.{LineLog}
 use Rattle.cq_keeper.specs.Firsts.{IsFirst, IsFirstAfter, IsFirstStill}
-use Rattle.cq_keeper.specs.Kept.{SayAll, accepted_since, HasLines, IsCutOff, IsLogOf}
+use Rattle.cq_keeper.specs.Kept.{SayAll, HasLines, IsCutOff, IsLogOf}
 use Rattle.cq_keeper.specs.declared.naming.LogOf as log_of
 use Rattle.cq_lines.specs.Pieces.{ended}
 use Rattle.cq_shared.specs.SharedPasses.{IsPassOf, cells_of}
@@ -28,7 +26,7 @@ say_more chunk [] (d ∷ changes) line change all says = absurd all
 say_more chunk (l ∷ lines) [] line change all says = absurd all
 say_more chunk (l ∷ lines) (d ∷ changes) line change all says = (all.0, say_more chunk lines changes line change all.1 says)
 
-module _ {K N W R : Type 0} (onto : sink.Ghosts K) (of : log_of.Ghosts N) (hub : Shared W R) (here : cells_of hub ≡ of.cells) (log : LineLog K) (p q : BoardPass) (is : IsLogOf onto of log p) where
+module _ {K N W R : Type 0} (onto : sink.Ghosts K) (of : log_of.Ghosts N) (hub : Shared W R) (here : cells_of hub ≡ of.cells) (log : Logged K) (p q : BoardPass) (is : IsLogOf onto of log p) where
   -- the pass is the first caller's, of a hub of which it is a pass
   pub first_of : (other : BoardPass) → IsPassOf hub other → IsFirst hub p
   first_of other mine = record {
@@ -37,11 +35,8 @@ module _ {K N W R : Type 0} (onto : sink.Ghosts K) (of : log_of.Ghosts N) (hub :
     only = ap (λ cells. cells.about.first_only) here ∙ is.only;
   }
 
-  since_more : (change : Change) → accepted q.seen ≡ accepted p.seen ++ change ∷ [] → accepted_since onto of q ≡ accepted_since onto of p ++ change ∷ []
-  since_more change more = ap (λ cs. drop of.taken cs) more ∙ drop-append-le of.taken (accepted p.seen) (change ∷ []) is.begun
-
-  begun_more : (change : Change) → accepted q.seen ≡ accepted p.seen ++ change ∷ [] → of.taken ≤ length (accepted q.seen)
-  begun_more change more = let low = is.begun in let n = ap length more ∙ length-append (accepted p.seen) (change ∷ []) in omega (arith, low, n)
+  since_more : (change : Change) → accepted q.seen ≡ accepted p.seen ++ change ∷ [] → accepted q.seen ≡ of.before ++ (is.since ++ change ∷ [])
+  since_more change more = more ∙ (ap (λ (cs : List Change). cs ++ change ∷ []) is.accepts ∙ append_assoc of.before is.since (change ∷ []))
 
   -- the change was refused
   pub refused_still : IsFirstStill hub p q → IsLogOf onto of log q
@@ -50,12 +45,13 @@ module _ {K N W R : Type 0} (onto : sink.Ghosts K) (of : log_of.Ghosts N) (hub :
     free = still.is.of.free;
     caller = still.is.caller;
     only = is.only;
-    begun = subst (λ cs. of.taken ≤ length cs) (sym still.accepts) is.begun;
-    whole = λ whole. subst (λ cs. HasLines onto of log (drop of.taken cs) × (onto.faults log.sink ≡ of.faults)) (sym still.accepts) (is.whole whole);
-    cut_off = λ broken. subst (λ cs. IsCutOff onto of log (drop of.taken cs)) (sym still.accepts) (is.cut_off broken);
+    since = is.since;
+    accepts = still.accepts ∙ is.accepts;
+    whole = is.whole;
+    cut_off = is.cut_off;
   }
 
-  module _ (change : Change) (line : List ℕ) (says : Says of.cells.about.settings.chunk line change) (after : IsFirstAfter hub p q change) (log' : LineLog K) where
+  module _ (change : Change) (line : List ℕ) (says : Says of.cells.about.settings.chunk line change) (after : IsFirstAfter hub p q change) (log' : Logged K) where
     -- its line was written whole
     pub kept_more : KeepsLine onto log log' line → IsLogOf onto of log' q
     kept_more kept =
@@ -65,12 +61,13 @@ module _ {K N W R : Type 0} (onto : sink.Ghosts K) (of : log_of.Ghosts N) (hub :
           free = after.is.of.free;
           caller = after.is.caller;
           only = is.only;
-          begun = begun_more change after.accepts;
+          since = is.since ++ change ∷ [];
+          accepts = since_more change after.accepts;
           whole = λ whole. (
-            subst (HasLines onto of log') (sym (since_more change after.accepts)) (record {
+            (record {
               lines = was.0.lines ++ line ∷ [];
-              say = say_more of.cells.about.settings.chunk was.0.lines (accepted_since onto of p) line change was.0.say says;
-              written = subst (Appends of.begun (onto.written log'.sink)) (sym (flat_map-append ended was.0.lines (line ∷ [])) ∙ refl)
+              say = say_more of.cells.about.settings.chunk was.0.lines is.since line change was.0.say says;
+              written = subst (Appends of.begun (onto.written log'.sink)) (sym (flat_map-append ended was.0.lines (line ∷ [])))
                   (Appends-trans of.begun (onto.written log.sink) (onto.written log'.sink) (flat_map ended was.0.lines) (flat_map ended (line ∷ [])) was.0.written (subst (Appends (onto.written log.sink) (onto.written log'.sink)) (sym (append-nil (ended line))) kept.written));
             }),
             kept.faults ∙ was.1,
@@ -88,12 +85,13 @@ module _ {K N W R : Type 0} (onto : sink.Ghosts K) (of : log_of.Ghosts N) (hub :
           free = after.is.of.free;
           caller = after.is.caller;
           only = is.only;
-          begun = begun_more change after.accepts;
+          since = is.since ++ change ∷ [];
+          accepts = since_more change after.accepts;
           whole = λ whole'. absurd (true≢false (sym whole' ∙ breaks.broken));
           cut_off = λ broken. record {
-            first = accepted_since onto of p;
+            first = is.since;
             last = change;
-            parts = sym (since_more change after.accepts);
+            parts = refl;
             lines = was.0.lines;
             say = was.0.say;
             line = line;

@@ -1,5 +1,5 @@
 -- What a log has, by what the first caller has seen.
-use Rattle.std.specs.Prelude.{◌≡◌, ℕ, ◌≤◌, true, false, List, [], ◌∷◌, ◌++◌, drop, flat_map, length, Option}
+use Rattle.std.specs.Prelude.{◌≡◌, ℕ, true, false, List, [], ◌∷◌, ◌++◌, flat_map}
 use Rattle.std.specs.Io.KnownBytes.{Appends}
 use Rattle.cq_base.specs.declared.change.Change.{Change}
 use Rattle.cq_cells.specs.Passes.{IsFree, by_of}
@@ -9,7 +9,7 @@ use Rattle.cq_history.specs.State.{accepted}
 use Rattle.cq_io.specs.Causes.{Rose}
 use Rattle.cq_io.specs.declared.sink.Sink as sink
 use Rattle.cq_keep.specs.Saying.{Says}
-use Rattle.cq_keep.specs.declared.line_log.LineLog.{LineLog}
+use Rattle.cq_keep.specs.LineLogs.{Logged}
 use Rattle.cq_keep.specs.declared.unkept.Unkept.{Unkept}
 use Rattle.cq_keep.specs.declared.unkept.Unkept.TheVariants as unkept
 use Rattle.cq_keeper.specs.Firsts as firsts
@@ -29,18 +29,14 @@ SayAll chunk (line ∷ lines) [] = ⊥
 SayAll chunk (line ∷ lines) (change ∷ changes) = Says chunk line change × SayAll chunk lines changes
 
 module _ {K N : Type 0} (onto : sink.Ghosts K) (of : log_of.Ghosts N) where
-  -- the changes that were accepted since the log began, as far as the pass has seen
-  abbrev pub accepted_since : BoardPass → List Change
-  accepted_since p = drop of.taken (accepted p.seen)
-
-  -- what was written since then are the lines of just these changes
-  pub record HasLines (log : LineLog K) (changes : List Change) : Type 0 where
+  -- what was written since the log began are the lines of just these changes
+  pub record HasLines (log : Logged K) (changes : List Change) : Type 0 where
     pub lines : List (List ℕ)
     pub say : SayAll of.cells.about.settings.chunk lines changes
     pub written : Appends of.begun (onto.written log.sink) (flat_map ended lines)
 
   -- they are the lines of all but the last one, and a front of its line, at which the sink failed
-  pub record IsCutOff (log : LineLog K) (changes : List Change) : Type 0 where
+  pub record IsCutOff (log : Logged K) (changes : List Change) : Type 0 where
     pub first : List Change
     pub last : Change
     pub parts : first ++ last ∷ [] ≡ changes
@@ -56,14 +52,15 @@ module _ {K N : Type 0} (onto : sink.Ghosts K) (of : log_of.Ghosts N) where
 
   -- The pass is that of the first caller of the cells, who alone accepts changes, so it has seen each acceptance. If each line
   -- was written whole, the log has the lines of the changes that were accepted since it began, and else a front of these.
-  pub record IsLogOf (log : LineLog K) (p : BoardPass) : Type 0 where
+  pub record IsLogOf (log : Logged K) (p : BoardPass) : Type 0 where
     pub cells : chain.IsPassOf of.cells p
     pub free : IsFree p
     pub caller : by_of p ≡ 0
     pub only : of.cells.about.first_only ≡ true
-    pub begun : of.taken ≤ length (accepted p.seen)
-    pub whole : log.whole ≡ true → HasLines log (accepted_since p) × (onto.faults log.sink ≡ of.faults)
-    pub cut_off : log.whole ≡ false → IsCutOff log (accepted_since p)
+    pub since : List Change
+    pub accepts : accepted p.seen ≡ of.before ++ since
+    pub whole : log.whole ≡ true → HasLines log since × (onto.faults log.sink ≡ of.faults)
+    pub cut_off : log.whole ≡ false → IsCutOff log since
 
 -- the change was not accepted, for this cause; or nobody is told whether it was
 abbrev pub RefusesKept : {W R : Type 0} → Shared W R → BoardPass → BoardPass → Change → Unkept → Type 0

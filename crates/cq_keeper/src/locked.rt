@@ -1,5 +1,6 @@
 ghost use Rattle.std.specs.Prelude.{◌≡◌, true, false, Err, IfOk, IfErr, IfSome, IsNone};
 ghost use Rattle.cq_base.specs.Changes.{IsSoundChange};
+ghost use Rattle.cq_keep.specs.LineLogs.{log_at};
 ghost use Rattle.cq_keep.specs.Saying.{Says};
 ghost use Rattle.cq_keep.specs.declared.unkept.Unkept.TheVariants as unkept;
 ghost use Rattle.cq_keeper.specs.Firsts.{AcceptsByFirst};
@@ -21,33 +22,36 @@ use std::marker::{Model, PhantomData};
 use std::sync::Wait;
 
 /// What is in the lock: the log, and the pass of the first caller, which has seen each acceptance. If each line was written
-/// whole, the lines that were written are those of the accepted changes.
+/// whole, the lines that were written are those of the accepted changes. Contracts see whether each was.
 #[derive(Drop)]
-pub struct Locked<W: Indexed, K: Sink + Drop, N: LogOf> {
-    log: LineLog<K>,
+pub struct Locked<'a, W: Indexed, K, N: LogOf> {
+    log: LineLog<'a, K>,
     pass: Pass<W>,
     of: PhantomData<N>,
 }
 
-impl<W: Indexed, K: Sink + Drop, N: LogOf> Model for Locked<W, K, N> {
-    ghost use Rattle.cq_keep.specs.declared.line_log.LineLog.{LineLog};
+impl<'a, W: Indexed, K: Sink, N: LogOf> Model for Locked<'a, W, K, N> {
+    ghost use Rattle.std.specs.Prelude.{◌≡◌, Bool};
+    ghost use Rattle.cq_keep.specs.LineLogs.{log_at};
     ghost use Rattle.cq_keeper.specs.Kept.{IsLogOf};
 
-    ghost Value = { LineLog K };
+    ghost Value = { Bool };
 
-    ghost view = { λ l. l.log };
+    ghost view = { λ l. l.log.whole };
 
-    ghost invariant = { λ l. IsLogOf K.Sink N.LogOf l.log l.pass };
+    ghost invariant = { λ l. (l.log.sink.ghost_name ≡ N.name)
+        × IsLogOf K.Sink N.LogOf (log_at l.log.sink.now l.log.whole) l.pass };
 }
 
-impl<W: Indexed, K: Sink + Drop, N: LogOf> Locked<W, K, N> {
-    /// The log that begins with this sink, by the pass of the first caller.
-    pub fn new(sink: K, pass: Pass<W>) -> Self
-        requires log { IsLogOf K.Sink N.LogOf (record { sink = sink; whole = true }) pass }
-        ensures { result ≡ record { sink = sink; whole = true } }
+impl<'a, W: Indexed, K: Sink, N: LogOf> Locked<'a, W, K, N> {
+    /// The log that begins with what this sink has, by the pass of the first caller.
+    pub fn new(sink: &'a mut K, pass: Pass<W>) -> Self
+        requires name { sink.entry.ghost_name ≡ N.name }
+        requires log { IsLogOf K.Sink N.LogOf (log_at sink.old true) pass }
+        ensures { result ≡ true }
     {
         Locked {
-            log: LineLog::new(sink),
+            log: LineLog { sink, whole: true },
             pass,
             of: PhantomData,
         }
@@ -55,7 +59,7 @@ impl<W: Indexed, K: Sink + Drop, N: LogOf> Locked<W, K, N> {
 
     /// Whether each line was written whole.
     pub fn is_whole(&self) -> bool
-        ensures { result ≡ self.now.whole }
+        ensures { result ≡ self.now }
     {
         self.log.whole
     }
@@ -76,8 +80,8 @@ impl<W: Indexed, K: Sink + Drop, N: LogOf> Locked<W, K, N> {
         requires says { Says (settings_of hub.now).chunk line.now change }
         ensures accepted { IfOk result (AcceptsByFirst hub.now pass.old pass.new change) }
         ensures refused { IfErr result (RefusesKept hub.now pass.old pass.new change) }
-        ensures kept { IfOk result (λ _. self.new.whole ≡ true) }
-        ensures broken { result ≡ Err unkept.Broken → self.new.whole ≡ false }
+        ensures kept { IfOk result (λ _. self.new ≡ true) }
+        ensures broken { result ≡ Err unkept.Broken → self.new ≡ false }
         ensures asked { pass.new.asked ≡ pass.old.asked }
     {
         if !self.log.whole {
@@ -97,7 +101,7 @@ impl<W: Indexed, K: Sink + Drop, N: LogOf> Locked<W, K, N> {
         requires of { IsPassOf hub.now pass.old }
         ensures told { IfSome result (IsTold hub.now pass.old pass.new) }
         ensures still { IsNone result → pass.new ≡ pass.old }
-        ensures broken { IsNone result → self.now.whole ≡ false }
+        ensures broken { IsNone result → self.now ≡ false }
         ensures asked { pass.new.asked ≡ pass.old.asked }
     {
         if !self.log.whole {
@@ -106,15 +110,13 @@ impl<W: Indexed, K: Sink + Drop, N: LogOf> Locked<W, K, N> {
         Some(hub.ask(pass))
     }
 
-    /// The log.
-    pub fn into_log(self) -> LineLog<K>
-        ensures { result ≡ self }
+    /// The log, with the pass by which its changes were accepted.
+    pub fn into_log(self) -> (LineLog<'a, K>, Pass<W>)
+        ensures whole { result.0.whole ≡ self }
+        ensures name { result.0.sink.ghost_name ≡ N.name }
+        ensures log { IsLogOf K.Sink N.LogOf (log_at result.0.sink.now result.0.whole) result.1 }
     {
-        let Locked {
-            log,
-            pass: _,
-            of: _,
-        } = self;
-        log
+        let Locked { log, pass, of: _ } = self;
+        (log, pass)
     }
 }

@@ -1,4 +1,5 @@
-ghost use Rattle.std.specs.Prelude.{ℕ, List, Option, None};
+ghost use Rattle.std.specs.Prelude.{ℕ, List, [], Option, None};
+ghost use Rattle.cq_base.specs.declared.change.Change.{Change as Accepted};
 ghost use Rattle.cq_chain.specs.Passes.{BoardCells};
 ghost use Rattle.cq_keeper.specs.Kept.{no_cells};
 
@@ -9,11 +10,14 @@ pub trait LogOf {
     // the cells of the hub whose changes it keeps
     ghost cells: { BoardCells };
 
+    // which sink was lent to it
+    ghost name: { ℕ };
+
     // what its sink had written when it began, if the sink reports that
     ghost begun: { Option (List ℕ) };
 
-    // how many changes the hub had accepted by then
-    ghost taken: { ℕ };
+    // the changes that the hub had accepted by then
+    ghost before: { List Accepted };
 
     // the sink's count of faults by then
     ghost faults: { ℕ };
@@ -22,9 +26,11 @@ pub trait LogOf {
 impl LogOf for Brand {
     ghost cells = { no_cells };
 
+    ghost name = { 0 };
+
     ghost begun = { None };
 
-    ghost taken = { 0 };
+    ghost before = { [] };
 
     ghost faults = { 0 };
 }

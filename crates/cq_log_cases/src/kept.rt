@@ -14,7 +14,11 @@ fn has_kept(
     requires { 0 < greatest }
 {
     let failing = vec![in alloc; failing]?;
-    let mut log = LineLog::new(MemSink::new(alloc, 99, greatest, failing)?);
+    let mut sink = MemSink::new(alloc, 99, greatest, failing)?;
+    let mut log = LineLog {
+        sink: &mut sink,
+        whole: true,
+    };
     let mut kept = 0;
     for line in [b"ab".as_slice(), b"c".as_slice(), b"def".as_slice()] {
         if log.keep(line).is_ok() {

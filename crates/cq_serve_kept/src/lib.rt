@@ -5,7 +5,6 @@
 #![tactic(auto)]
 
 mod doors;
-mod lent;
 mod log;
 mod reloading;
 mod serving;

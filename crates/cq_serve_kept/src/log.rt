@@ -1,4 +1,5 @@
-ghost use Rattle.std.specs.Prelude.{true};
+ghost use Rattle.std.specs.Prelude.{◌≡◌, true};
+ghost use Rattle.cq_keep.specs.LineLogs.{log_at};
 ghost use Rattle.cq_keeper.specs.Kept.{IsLogOf};
 
 use cq_base::Change;
@@ -15,15 +16,16 @@ use std::sync::{Mutex, Wait};
 
 /// A log that the sessions of a server share.
 #[derive(Drop)]
-pub struct Log<'a, Q, W: Indexed, K: Sink + Drop, N: LogOf> {
+pub struct Log<'a, 's, Q, W: Indexed, K, N: LogOf> {
     rt: &'a Q,
-    locked: Mutex<Locked<W, K, N>>,
+    locked: Mutex<Locked<'s, W, K, N>>,
 }
 
-impl<'a, Q: Wait, W: Indexed, K: Sink + Drop, N: LogOf> Log<'a, Q, W, K, N> {
-    /// The log that begins with this sink, by the pass of the first caller.
-    pub fn new(rt: &'a Q, sink: K, pass: Pass<W>) -> Self
-        requires log { IsLogOf K.Sink N.LogOf (record { sink = sink; whole = true }) pass }
+impl<'a, 's, Q: Wait, W: Indexed, K: Sink, N: LogOf> Log<'a, 's, Q, W, K, N> {
+    /// The log that begins with what this sink has, by the pass of the first caller.
+    pub fn new(rt: &'a Q, sink: &'s mut K, pass: Pass<W>) -> Self
+        requires name { sink.entry.ghost_name ≡ N.name }
+        requires log { IsLogOf K.Sink N.LogOf (log_at sink.old true) pass }
     {
         Log {
             rt,
@@ -36,15 +38,18 @@ impl<'a, Q: Wait, W: Indexed, K: Sink + Drop, N: LogOf> Log<'a, Q, W, K, N> {
         self.locked.lock(self.rt).is_whole()
     }
 
-    /// The log, once nobody uses it any more.
-    pub fn into_log(self) -> LineLog<K> {
+    /// The log, once nobody uses it any more, with the pass by which its changes were accepted.
+    pub fn into_log(self) -> (LineLog<'s, K>, Pass<W>)
+        ensures name { result.0.sink.ghost_name ≡ N.name }
+        ensures log { IsLogOf K.Sink N.LogOf (log_at result.0.sink.now result.0.whole) result.1 }
+    {
         let Log { rt: _, locked } = self;
         locked.into_inner().into_log()
     }
 }
 
-impl<'a, Q: Wait, W: Indexed, K: Sink + Drop, N: LogOf, R: Wait> Keeper<W, Shared<W, R>>
-    for Log<'a, Q, W, K, N> {
+impl<'a, 's, Q: Wait, W: Indexed, K: Sink, N: LogOf, R: Wait> Keeper<W, Shared<W, R>>
+    for Log<'a, 's, Q, W, K, N> {
     ghost use Rattle.std.specs.Prelude.{◌≡◌, true};
     ghost use Rattle.cq_keeper.specs.Kept.{first_caller};
     ghost use Rattle.cq_shared.specs.SharedPasses.{cells_of};

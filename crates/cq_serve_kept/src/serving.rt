@@ -1,14 +1,22 @@
-ghost use Rattle.std.specs.Prelude.{◌≡◌, ◌≤◌, IfOk, OnErr};
+ghost use Rattle.std.specs.Prelude.{◌≡◌, ◌≤◌, ◌+◌, List, [], vec_len, All, IfOk, IsSome};
 ghost use Rattle.cq_base.specs.Settings.{IsInRange};
-ghost use Rattle.cq_serve_kept.specs.Continued.{EndsKept};
+ghost use Rattle.cq_base.specs.declared.change.Change.{Change};
+ghost use Rattle.cq_history.specs.State.{accepted};
+ghost use Rattle.cq_keeper.specs.Firsts.{IsFirst};
+ghost use Rattle.cq_listen.specs.Seats.{IsIdle};
+ghost use Rattle.cq_log.specs.Mending.{mending};
+ghost use Rattle.cq_shared.specs.SharedPasses.{callers_of, cells_of, settings_of};
+ghost use Rattle.cq_serve_kept.specs.Continued.{EndsKept, EndsTaken};
+ghost use Rattle.cq_serve_kept.specs.Reloads.{HasTaken};
 
 use crate::doors::KeptDoors;
-use crate::lent::Lent;
 use crate::log::Log;
 use crate::reloading::Reloaded;
 use cq_base::{Counters, Memory, Settings, Text};
 use cq_chain::Pass;
 use cq_io::{Doors, Failed, Gate, Sink, Source};
+use cq_keep::LineLog;
+use cq_keeper::LogOf;
 use cq_lines::Lines;
 use cq_listen::{Passes, Served, passes_of, serve_over};
 use cq_log::{Taken, mend, take_log};
@@ -37,7 +45,64 @@ pub enum Kept {
     Unbound,
 }
 
-// Serves the doors of an address, once the log is taken.
+// Does nothing: by this use, the borrow checker ties the sink to the parameter that lent it.
+fn take_back<K>(sink: &mut K)
+    ensures { sink.new ≡ sink.old }
+{}
+
+// Serves the doors, and continues the log in the sink, by the pass of the first caller.
+fn serve_logging<
+    Q: Threads + Wait + Sync,
+    L: Ledger + Send + Sync,
+    N: LogOf,
+    K: Sink + Send,
+    I: Source + Send + Drop,
+    O: Sink + Send + Drop,
+    D: Doors<In = I, Out = O>,
+    G: Gate + Sync,
+>(
+    rt: &Q,
+    alloc: Global,
+    settings: &Settings,
+    counters: &Counters<L>,
+    hub: &Shared<Work<L>, &Q>,
+    pass: Pass<Work<L>>,
+    passes: Passes<Work<L>>,
+    sink: &mut K,
+    doors: &mut D,
+    gate: &G,
+) -> Result<Kept, Memory>
+    requires in_range { IsInRange settings.now }
+    requires settings { settings_of hub.now ≡ settings.now }
+    requires first { IsFirst hub.now pass }
+    requires workers { All (IsIdle hub.now) passes.workers.items }
+    requires sessions { All (IsIdle hub.now) passes.sessions.items }
+    requires own { IsIdle hub.now passes.own }
+    requires few { vec_len passes.sessions ≤ 64 }
+    requires bound { IsSome (D.bound doors.old) }
+    requires name { sink.entry.ghost_name ≡ N.name }
+    requires cells { cells_of hub.now ≡ N.cells }
+    requires begun { K.written sink.old ≡ N.begun }
+    requires before { accepted pass.seen ≡ N.before }
+    requires faults { K.faults sink.old ≡ N.faults }
+    ensures ends { IfOk result
+        (EndsTaken K.Sink settings.now [] (accepted pass.seen) sink.old sink.new) }
+{
+    let log: Log<'_, '_, Q, Work<L>, K, N> = Log::new(rt, sink, pass);
+    let mut doors = KeptDoors { doors, log: &log };
+    let served = serve_over(
+        rt, alloc, settings, counters, hub, &log, passes, &mut doors, gate,
+    )?;
+    let (log, _pass) = log.into_log();
+    let LineLog { sink, whole } = log;
+    take_back(sink);
+    if whole {
+        return Ok(Kept::Served(served));
+    }
+    Ok(Kept::Broken)
+}
+
+// Serves the doors of an address, once the log is taken, and mends its end before anything else is written.
 fn serve_taken<
     Q: Threads + Wait + Sync,
     L: Ledger + Send + Sync,
@@ -61,7 +126,15 @@ fn serve_taken<
     gate: &G,
     workers: u32,
     sessions: u32,
-) -> Result<Kept, Memory> {
+) -> Result<Kept, Memory>
+    requires in_range { IsInRange settings.now }
+    requires taken { (changes : List Change) × HasTaken hub.now pass settings.now changes }
+    requires room { workers + sessions + 2 ≤ callers_of hub.now }
+    requires workers { workers ≤ 64 }
+    requires sessions { sessions ≤ 64 }
+    ensures ends { IfOk result (λ by. (changes : List Change) → HasTaken hub.now pass settings.now changes
+        → EndsTaken K.Sink settings.now (mending unclosed torn) changes sink.old sink.new by) }
+{
     let mut pass = pass;
     let passes = Passes {
         workers: passes_of(alloc, hub, &mut pass, workers)?,
@@ -76,15 +149,9 @@ fn serve_taken<
         Ok(()) => {}
         Err(Failed) => return Ok(Kept::Broken),
     }
-    let log: Log<'_, Q, Work<L>, Lent<'_, K>, Brand> = Log::new(rt, Lent { sink }, pass);
-    let mut doors = KeptDoors { doors, log: &log };
-    let served = serve_over(
-        rt, alloc, settings, counters, hub, &log, passes, &mut doors, gate,
-    )?;
-    if log.is_whole() {
-        return Ok(Kept::Served(served));
-    }
-    Ok(Kept::Broken)
+    serve_logging::<Q, L, Brand, K, I, O, D, G>(
+        rt, alloc, settings, counters, hub, pass, passes, sink, doors, gate,
+    )
 }
 
 /// Takes a log from the source up to its end, binds the address, mends the end of the log, and serves the connections that come
