@@ -150,6 +150,31 @@ fn a_log_is_continued(rt: HostRuntime) -> Result<(), Memory> {
     Ok(())
 }
 
+// What a browser sends that a page makes upload a change, and a client whose first line is an object that is refused.
+const BROWSER: &str =
+    "POST / HTTP/1.1\r\nHost: localhost\r\n\r\n{\"op\":\"put\",\"project\":\"p\",\"path\":\"t\",\"lang\":\"any\",\"text\":\"a b\"}\n";
+
+const CLUMSY: &str = r#"{}
+{"op":"put","project":"p","path":"t","lang":"any","text":"a b"}
+"#;
+
+#[test]
+fn a_browser_changes_nothing(rt: HostRuntime) -> Result<(), Memory> {
+    let alloc = rt.alloc();
+    let browser = Logged {
+        client: Some(BROWSER),
+        ..NOBODY
+    };
+    assert!(rt; is_logged(&rt, alloc, &browser)?);
+    let clumsy = Logged {
+        client: Some(CLUMSY),
+        written: PUT,
+        ..NOBODY
+    };
+    assert!(rt; is_logged(&rt, alloc, &clumsy)?);
+    Ok(())
+}
+
 #[test]
 fn a_log_is_refused_or_breaks(rt: HostRuntime) -> Result<(), Memory> {
     let alloc = rt.alloc();
