@@ -69,18 +69,6 @@ HasEndCause read read_now written written_now end.Spent = (read_now ≡ read) ×
 HasEndCause read read_now written written_now end.ReadFault = Rose read read_now × (written_now ≡ written)
 HasEndCause read read_now written written_now end.WriteFault = Rose written written_now × (read_now ≡ read)
 
--- what answers may be asked again, unless the sink failed
-abbrev pub IsReadyAt : Type 0 → End → Type 0
-IsReadyAt Ready end.Finished = Ready
-IsReadyAt Ready end.Spent = Ready
-IsReadyAt Ready end.ReadFault = Ready
-IsReadyAt Ready end.WriteFault = Unit {0}
-
--- or the answering stopped
-abbrev pub IsReadyAfter : {C : Type 0} → Type 0 → Result End C → Type 0
-IsReadyAfter Ready (Ok by) = IsReadyAt Ready by
-IsReadyAfter Ready (Err cause) = Unit {0}
-
 -- from a source to a sink
 module _ {S K : Type 0} (from : source.Ghosts S) (onto : sink.Ghosts K) where
   -- its lines were served

@@ -1,6 +1,6 @@
 ghost use Rattle.std.specs.Prelude.{◌≡◌, []};
 ghost use Rattle.cq_lines.specs.Runs.{IsFresh};
-ghost use Rattle.cq_lines.specs.Serving.{IsReadyAfter, IsReadyAt, HasCauseOfEnd, HasCauseUntil, ServesLines, ServesLinesUntil};
+ghost use Rattle.cq_lines.specs.Serving.{HasCauseOfEnd, HasCauseUntil, ServesLines, ServesLinesUntil};
 
 use crate::answers::{Answers, AnswersUntil};
 use crate::ending::End;
@@ -23,7 +23,6 @@ pub fn serve_lines_until<A: AnswersUntil, S: Source, K: Sink>(
         → ServesLinesUntil S.Source K.Sink A.line_of (A.AreReplies from answers.old answers.new)
         (A.HasStopped from answers.old answers.new)
         lines.old.limit source.old source.new sink.old sink.new result }
-    ensures ready { IsReadyAfter (A.ready answers.new) result }
     ensures cause { HasCauseUntil S.Source K.Sink source.old source.new sink.old sink.new result }
     ensures limit { lines.new.limit ≡ lines.old.limit }
 {
@@ -53,6 +52,8 @@ struct Unstopped<'a, A> {
 }
 
 impl<'a, A: Answers> AnswersUntil for Unstopped<'a, A> {
+    ghost use Rattle.std.specs.Prelude.{◌≡◌};
+
     type Stop = Infallible;
 
     ghost Reply = { A.Reply };
@@ -62,7 +63,8 @@ impl<'a, A: Answers> AnswersUntil for Unstopped<'a, A> {
     ghost Beginning = { A.Beginning };
 
     ghost AreReplies = { λ from first now lines replies.
-        A.AreReplies from first.answers.now now.answers.now lines replies };
+        A.AreReplies from first.answers.now now.answers.now lines replies
+        × (now.answers.ghost_name ≡ first.answers.ghost_name) };
 
     ghost HasStopped = { λ from first now lines replies cause. ⊥ };
 
@@ -95,7 +97,6 @@ pub fn serve_lines<A: Answers, S: Source, K: Sink>(
     ensures served { (from : A.Beginning) → A.AreReplies from answers.old answers.old [] []
         → ServesLines S.Source K.Sink A.line_of (A.AreReplies from answers.old answers.new)
         lines.old.limit source.old source.new sink.old sink.new result }
-    ensures ready { IsReadyAt (A.ready answers.new) result }
     ensures cause { HasCauseOfEnd S.Source K.Sink source.old source.new sink.old sink.new result }
     ensures limit { lines.new.limit ≡ lines.old.limit }
 {

@@ -1,5 +1,5 @@
 -- One more line of a talk.
-use Rattle.std.proofs.Common.{◌≡◌, ℕ, ◌≤◌, List, [], ◌∷◌, ◌++◌, length, flat_map, map, max, Bool, true, false, Option, Some, None, Ok, refl, sym, ap, ◌∙◌, subst, true≢false}
+use Rattle.std.proofs.Common.{◌≡◌, ℕ, ◌≤◌, List, [], ◌∷◌, ◌++◌, length, flat_map, map, max, Bool, true, false, Option, Some, None, Result, Ok, refl, sym, ap, ◌∙◌, subst, true≢false}
 use Rattle.std.proofs.KnownBytes.{Appends-nil}
 use Rattle.std.proofs.lemmas.List.{append-nil, map-append}
 use Rattle.std.specs.Io.KnownBytes.{Appends}
@@ -7,6 +7,11 @@ use Rattle.cq_base.specs.declared.settings.Settings.{Settings}
 use Rattle.cq_history.specs.declared.event.Event.{Event}
 use Rattle.cq_history.specs.State.{accepted}
 use Rattle.cq_history.specs.Lawful.{Lawful}
+use Rattle.cq_io.specs.declared.sink.Sink as sink
+use Rattle.cq_io.specs.declared.source.Source as source
+use Rattle.cq_lines.specs.Serving.{ServesLinesUntil}
+use Rattle.cq_lines.specs.declared.ending.End.{End}
+use Rattle.cq_lines.proofs.Serving.{until_as, until_by}
 use Rattle.cq_reply.specs.Written.{line_of}
 use Rattle.cq_reply.specs.declared.reply.Reply.{Reply}
 use Rattle.cq_talk.specs.Replies.{named}
@@ -114,3 +119,14 @@ module _ {H W P : Type 0} (of : Ghosts H W P) (hub : H) (old new : P) (reads rea
       → MayStop Breaks strict why → (strict ≡ true → first ≡ true → lines ≡ []) → Ends strict first (Some why) → StopsHere set (of.callers hub) of.alone c (acceptor c) begun after (lines ++ line ∷ []) replies before written_now why
   stopped_by Breaks strict first stop.Unkept begun n lines replies was may none ends = breaks_off set (of.callers hub) of.alone c (acceptor c) begun h after n seen lines replies line before written_now was ends.0 ends.1
   stopped_by Breaks strict first stop.Stranger begun n lines replies was may none ends = turned_away set (of.callers hub) of.alone c (acceptor c) begun h after n seen lines replies line before written_now was ends.0.reply (none may ends.1) ends.2 ends.0.answers ends.0.sends
+
+-- ---- what is so whichever the lines were is taken out of what was served
+
+module _ {S K : Type 0} (from : source.Ghosts S) (onto : sink.Ghosts K) {A B C D E : Type 0} (Talked : List (List ℕ) → List Reply → Type 0) (Met : List (List ℕ) → Type 0) (Stopped : List (List ℕ) → List Reply → Stop → Type 0) (May : Stop → Type 0) where
+  pub until_with : (limit : ℕ) (read read_now : S) (written written_now : K) (result : Result End Stop)
+      → ServesLinesUntil from onto line_of (λ lines replies. Talked lines replies × Met lines × A × B × C × D × E) (λ lines replies why. Stopped lines replies why × A × B × C × D × E × May why) limit read read_now written written_now result
+      → A × B × C × D × E × ServesLinesUntil from onto line_of (λ lines replies. Talked lines replies × Met lines) (λ lines replies why. Stopped lines replies why × May why) limit read read_now written written_now result
+  until_with limit read read_now written written_now result is =
+      let (so, both, served) = until_by from onto line_of (λ (so : A × B × C × D × E). Unit {0}) (λ (so : A × B × C × D × E) lines replies. Talked lines replies × Met lines) (λ (so : A × B × C × D × E) lines replies why. Stopped lines replies why × May why) limit read read_now written written_now result
+      (until_as from onto line_of _ _ _ _ (λ lines replies is. ((is.2, is.3, is.4, is.5, is.6), tt, (is.0, is.1))) (λ lines replies why is. ((is.1, is.2, is.3, is.4, is.5), tt, (is.0, is.6))) limit read read_now written written_now result is) in
+      (so.0, so.1, so.2, so.3, so.4, served)

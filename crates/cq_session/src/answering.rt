@@ -80,8 +80,8 @@ fn state_reply<W: Indexed, H: Hub<W>, P: Keeper<W, H>, G>(
     })
 }
 
-// The reply to a query whose floor is at least `seen`; none if a line could not be kept, and then nothing was done. Behind an
-// answer by a view the hub is swept. Where memory is refused, what was done is a beginning of what the query does.
+// The reply to a query whose floor is at least `seen`; none if a line could not be kept, and then nothing was done. After an
+// answer by a view the hub is swept. If memory runs out, what was done is a beginning of what the query does.
 fn kept_query_reply<R: Threads + Sync, L: Ledger, H: Hub<Work<L>>, P: Keeper<Work<L>, H>, G: Gate>(
     rt: &R,
     server: &Server<'_, H, P, G>,
@@ -128,8 +128,8 @@ fn kept_query_reply<R: Threads + Sync, L: Ledger, H: Hub<Work<L>>, P: Keeper<Wor
     }
 }
 
-/// The reply to a query whose floor is at least `seen`. Behind an answer by a view the hub is swept. Where memory is
-/// refused, what was done is a beginning of what the query does.
+/// The reply to a query whose floor is at least `seen`. After an answer by a view the hub is swept. If memory runs
+/// out, what was done is a beginning of what the query does.
 pub fn query_reply<R: Threads + Sync, L: Ledger, H: Hub<Work<L>>, G: Gate>(
     rt: &R,
     server: &Server<'_, H, NoLog, G>,
@@ -157,8 +157,8 @@ pub fn query_reply<R: Threads + Sync, L: Ledger, H: Hub<Work<L>>, G: Gate>(
     }
 }
 
-/// The reply to what a line says; none if a line could not be kept. Where memory is refused, what was done is a beginning of
-/// what the line does.
+/// The reply to what a line says; none if a line could not be kept. If memory runs out, what was done is a beginning of what
+/// the line does.
 pub(crate) fn reply_to<
     R: Threads + Sync,
     L: Ledger,

@@ -11,7 +11,7 @@ use cq_io::Gate;
 use cq_work::{Work, work_for};
 use std::sync::ledger::Ledger;
 
-// The work of a change is done, by this caller where it was not done yet.
+// Does the work of a change unless it is done already.
 fn help_one<L: Ledger, H: Hub<Work<L>>, P, G: Gate>(
     server: &Server<'_, H, P, G>,
     change: u64,
@@ -41,11 +41,11 @@ fn help_one<L: Ledger, H: Hub<Work<L>>, P, G: Gate>(
     }
 }
 
-// How many works are made in a row from the last one down.
+// How many works are done in a row from the last one down.
 const BLOCK: u64 = 64;
 
-// The works of the changes behind the first `done`, which are done, are done up to the one with the number `to`, the last
-// one first.
+// Does the works of the changes after the first `done`, whose works are done, up to the change with the number `to`, the
+// last one first.
 fn help_down<L: Ledger, H: Hub<Work<L>>, P, G: Gate>(
     server: &Server<'_, H, P, G>,
     done: u64,
@@ -71,9 +71,9 @@ fn help_down<L: Ledger, H: Hub<Work<L>>, P, G: Gate>(
     Ok(())
 }
 
-/// The works of the changes behind the first `done`, which are done, are done up to the one with the number `to`. Each
-/// costs what `work_of` does, unless it is done by then. Of some changes in a row the last one is made first: workers
-/// begin with the first one, so few are made twice.
+/// Does the works of the changes after the first `done`, whose works are done, up to the change with the number `to`. Each
+/// costs what `work_of` does, unless it is done by then. Of some changes in a row the last one is done first: workers
+/// begin with the first one, so few are done twice.
 pub(crate) fn help<L: Ledger, H: Hub<Work<L>>, P, G: Gate>(
     server: &Server<'_, H, P, G>,
     done: u64,

@@ -1,8 +1,8 @@
 use cq_work::Keyer;
 use std::alloc::Global;
 
-/// What sessions and workers serve by: the hub of the changes, the keyer of their works, who keeps the line of each change,
-/// and the gate that is told of each step. Those of several threads may share one hub.
+/// What sessions and workers share: the hub of the changes, the keyer of their works, who keeps the line of each change, and
+/// the gate to which each step is reported. The servers of several threads may have one hub.
 #[derive(Drop)]
 pub struct Server<'a, H, P, G> {
     pub alloc: Global,

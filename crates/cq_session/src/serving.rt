@@ -107,13 +107,15 @@ impl<
         now.pass.now now.seen lines replies
         × (P.strict now.server.now.keeper.now ≡ true → HasMet now.server.now.keyer.now.settings.chunk now.met lines)
         × (now.server.now.keyer.now.settings ≡ first.server.now.keyer.now.settings) × (now.server.now.hub.now ≡ first.server.now.hub.now)
-        × (now.server.now.keeper.now ≡ first.server.now.keeper.now) };
+        × (now.server.now.keeper.now ≡ first.server.now.keeper.now)
+        × (now.pass.ghost_name ≡ first.pass.ghost_name) × (now.steps.ghost_name ≡ first.steps.ghost_name) };
 
     ghost HasStopped = { λ from first now lines replies why.
         HasStoppedAt H.Hub now.server.now.keyer.now.settings now.server.now.hub.now
         (P.acceptor now.server.now.keeper.now) from now.pass.now lines replies why
         × (now.server.now.keyer.now.settings ≡ first.server.now.keyer.now.settings) × (now.server.now.hub.now ≡ first.server.now.hub.now)
         × (now.server.now.keeper.now ≡ first.server.now.keeper.now)
+        × (now.pass.ghost_name ≡ first.pass.ghost_name) × (now.steps.ghost_name ≡ first.steps.ghost_name)
         × MayStop (P.Breaks now.server.now.keeper.now) (P.strict now.server.now.keeper.now) why };
 
     ghost ready = { λ t. IsSync R.row × IsInRange t.server.now.keyer.now.settings
@@ -161,10 +163,10 @@ impl<
 /// Answers the lines of a source one by one by calls of a hub, whose pass has no view open. Windows have the keys of
 /// `keyer`. If the keeper is strict, and the first line is no JSON object, its reply is the last. A change is accepted by the keeper, which keeps its line before its reply is written; and no version is shown
 /// with a change whose line is not kept. Each whole reply is handed to the sink before the next line is cut. Afterwards the
-/// pass stands for the history to which the talk came, with no view open. Behind each answer by a view, and before it is
-/// written, the hub is swept; want of memory there is let go. The gate is told of each accepted change, of each work before
-/// it is made, of each shard that was brought up and of each view that was opened. The cutter keeps its limit, so that it
-/// may be restarted for another source.
+/// pass stands for the history to which the talk came, with no view open. After each answer by a view, and before it is
+/// written, the hub is swept; if memory runs out there, the next sweep goes on. Each accepted change, each work before it is
+/// done, each shard that was brought up and each view that was opened is reported to the gate. The cutter keeps its limit, so
+/// that it may be restarted for another source.
 pub fn kept_session<
     R: Threads + Sync,
     L: Ledger,

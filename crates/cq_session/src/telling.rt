@@ -19,7 +19,7 @@ use cq_work::Work;
 use std::sync::ledger::Ledger;
 use std::thread::Threads;
 
-// The number that a reply names as change, version or published, and 0 where it names none.
+// The number that a reply names as change, version or published, or 0 if it names none.
 fn named(reply: &Reply) -> u64
     ensures { result ≡ named_in reply.now }
 {

@@ -63,7 +63,7 @@ fn reply_in<R: Threads + Sync, L: Ledger, H: Hub<Work<L>>, P, G: Gate>(
     )
 }
 
-// Shuts the view behind what came of it, a reply or a want of memory, and hands that on.
+// Shuts the view after its reply was made, or memory ran out, and returns which of the two it was.
 fn close_behind<W: Indexed, H: Hub<W>>(
     hub: &H,
     view: View<W>,
@@ -79,8 +79,8 @@ fn close_behind<W: Indexed, H: Hub<W>>(
     came
 }
 
-// Raises the floor to the least version that may still be looked at. Want of memory is let go: the floor stands, and what of
-// the index wasn't swept waits for the next sweep.
+// Raises the floor to the least version that may still be looked at. If memory runs out, the floor is raised all the same,
+// and what of the index was not swept waits for the next sweep.
 fn sweep_behind<W: Indexed, H: Hub<W>>(alloc: Global, hub: &H, pass: &mut H::Pass)
     requires stands { IsPassOf H.Stands hub.now pass.old }
     ensures swept { HasSwept H.Hub hub.now pass.old pass.new }
@@ -90,7 +90,7 @@ fn sweep_behind<W: Indexed, H: Hub<W>>(alloc: Global, hub: &H, pass: &mut H::Pas
 }
 
 /// The reply to a query at a version that is not below `to`, up to which all changes are done. A view of it is opened
-/// for the reply, and is shut again however that ends. Behind a reply the hub is swept.
+/// for the reply, and is shut again however that ends. After a reply the hub is swept.
 pub(crate) fn view_reply<R: Threads + Sync, L: Ledger, H: Hub<Work<L>>, P, G: Gate>(
     rt: &R,
     server: &Server<'_, H, P, G>,

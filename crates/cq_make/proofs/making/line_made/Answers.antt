@@ -1,9 +1,37 @@
-use Rattle.std.proofs.Common.{◌∙◌, subst}
+use Rattle.std.proofs.Common.{◌∙◌, ◌≤◌, subst, sym}
+use Rattle.cq_base.specs.Settings.{IsInRange}
 use Rattle.cq_base.specs.declared.settings.Settings.{Settings}
 use Rattle.cq_request.specs.declared.request.Kind.TheVariants as kind
 use Rattle.cq_make.specs.Summary.{IsAnsweredByAll}
 use Rattle.cq_make.proofs.Asked.{reply_by_puts}
 use Rattle.cq_make.proofs.making.line_made.Goals as goal
+
+pub reply_of-requires-clause-in_range : goal.reply_of-requires-clause-in_range
+reply_of-requires-clause-in_range g c κs lives = subst IsInRange (sym c.plain-keyer.ensures) c.requires.in_range
+
+pub reply_of-requires-clause-short : goal.reply_of-requires-clause-short
+reply_of-requires-clause-short g c κs lives = subst (λ (set : Settings). set.chunk ≤ 50) (sym c.plain-keyer.ensures) c.requires.short
+
+pub reply_of-requires-clause-hub_settings : goal.reply_of-requires-clause-hub_settings
+reply_of-requires-clause-hub_settings g c κs lives = c.in_ok-made.ensures.settings ∙ sym c.plain-keyer.ensures
+
+pub reply_of-requires-2-clause-in_range : goal.reply_of-requires-2-clause-in_range
+reply_of-requires-2-clause-in_range g c κs lives = subst IsInRange (sym c.plain-keyer.ensures) c.requires.in_range
+
+pub reply_of-requires-2-clause-short : goal.reply_of-requires-2-clause-short
+reply_of-requires-2-clause-short g c κs lives = subst (λ (set : Settings). set.chunk ≤ 50) (sym c.plain-keyer.ensures) c.requires.short
+
+pub reply_of-requires-2-clause-hub_settings : goal.reply_of-requires-2-clause-hub_settings
+reply_of-requires-2-clause-hub_settings g c κs lives = c.in_ok-made.ensures.settings ∙ sym c.plain-keyer.ensures
+
+pub reply_of-requires-3-clause-in_range : goal.reply_of-requires-3-clause-in_range
+reply_of-requires-3-clause-in_range g c κs lives = subst IsInRange (sym c.plain-keyer.ensures) c.requires.in_range
+
+pub reply_of-requires-3-clause-short : goal.reply_of-requires-3-clause-short
+reply_of-requires-3-clause-short g c κs lives = subst (λ (set : Settings). set.chunk ≤ 50) (sym c.plain-keyer.ensures) c.requires.short
+
+pub reply_of-requires-3-clause-hub_settings : goal.reply_of-requires-3-clause-hub_settings
+reply_of-requires-3-clause-hub_settings g c κs lives = c.in_ok-made.ensures.settings ∙ sym c.plain-keyer.ensures
 
 pub line_told-requires-clause-groups : goal.line_told-requires-clause-groups
 line_told-requires-clause-groups g c =

@@ -1,4 +1,4 @@
-use Rattle.std.proofs.Common.{List, rules, refl, subst₂}
+use Rattle.std.proofs.Common.{rules, refl, subst₂}
 use Rattle.cq_base.specs.declared.settings.Settings.{Settings}
 use Rattle.cq_lines.proofs.Serving.{serves_as}
 use Rattle.cq_reply.specs.Written.{line_of}

@@ -33,6 +33,8 @@ returns-in-Ok-None-clause-sent g c = λ from first lines replies so.
         so.2,
         so.3,
         so.4,
+        so.5,
+        so.6,
       ),
       turns.sends,
     )
@@ -65,7 +67,7 @@ returns-in-Ok-Some-clause-sent g c = λ from first lines replies so.
     let may = rw c.in-Ok-Some.field-0-is at c.in-Ok-Some.ensures.may in
     let stops = stopped_by g.H.Hub hub _ _ _ _ _ (g.P.Keeper.acceptor keeper) set c.args.line.now _ _ _ from.0 was.after two.after (g.P.Keeper.Breaks keeper) (g.P.Keeper.strict keeper) c.meet-first.result c.in-Ok-Some.why from.1 _ lines replies was.talk may
     (λ strictly here. none_before set.chunk c.args.self.now.met lines (sym c.meet-first.ensures.first ∙ here) (so.1 strictly)) two.holds in
-    (stops.more, (record { after = two.after; stands = two.stands; closed = two.closed; stopped = stops.stopped }, so.2, so.3, so.4, may), stops.sent)
+    (stops.more, (record { after = two.after; stands = two.stands; closed = two.closed; stopped = stops.stopped }, so.2, so.3, so.4, so.5, so.6, may), stops.sent)
 
 pub returns-in-Err-clause-sent : goal.returns-in-Err-clause-sent
 returns-in-Err-clause-sent g c = λ from first lines replies so.
@@ -90,6 +92,8 @@ returns-in-Err-clause-sent g c = λ from first lines replies so.
         so.2,
         so.3,
         so.4,
+        so.5,
+        so.6,
       ),
       turns.sends,
     )

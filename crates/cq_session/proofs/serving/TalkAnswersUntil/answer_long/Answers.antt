@@ -33,6 +33,8 @@ returns-in-None-clause-sent g c = λ line long from first lines replies so.
         so.2,
         so.3,
         so.4,
+        so.5,
+        so.6,
       ),
       subst (λ piece. Appends (g.K.Sink.written c.args.sink.now) (g.K.Sink.written c.send.new.sink) piece) (c.as_bytes.ensures.bytes ∙ c.fixed.ensures) c.in-Ok.ensures.bytes,
     )
@@ -57,6 +59,8 @@ returns-in-Some-clause-sent g c = λ line long from first lines replies so.
         so.2,
         so.3,
         so.4,
+        so.5,
+        so.6,
         subst (λ (why : Stop). MayStop (g.P.Keeper.Breaks keeper) (g.P.Keeper.strict keeper) why) (sym there.stranger) there.strictly,
       ),
       stops.sent,
@@ -82,6 +86,8 @@ returns-in-Err-clause-sent g c = λ line long from first lines replies so.
         so.2,
         so.3,
         so.4,
+        so.5,
+        so.6,
       ),
       subst (λ piece. SendsFront (g.K.Sink.written c.args.sink.now) (g.K.Sink.written c.send.new.sink) piece) (c.as_bytes.ensures.bytes ∙ c.fixed.ensures) c.in-Err.ensures.bytes,
     )
