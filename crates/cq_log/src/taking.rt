@@ -1,4 +1,4 @@
-ghost use Rattle.std.specs.Prelude.{◌≡◌, ◌≤◌, false, [], length, IfOk};
+ghost use Rattle.std.specs.Prelude.{◌≡◌, ◌≤◌, false, [], length, IfOk, OnOk};
 ghost use Rattle.cq_lines.specs.Pieces.{line_limit};
 ghost use Rattle.cq_lines.specs.Runs.{IsFresh};
 ghost use Rattle.cq_log.specs.Takers.{HasCauseOfTaking, Takes, TakesLine, mended_by};
@@ -35,8 +35,10 @@ fn take_whole<T: Taker>(
     taker: &mut T,
     line: &[u8],
 ) -> Result<Option<bool>, Memory>
+    requires ready { T.ready taker.old }
     requires short { length line.now ≤ line_limit }
     ensures takes { IfOk result (TakesLine T.Has settings.now false line.now taker.old taker.new) }
+    ensures ready { OnOk result (T.ready taker.new) }
 {
     match log_line(alloc, settings, line)? {
         LogLine::Change(change) => match taker.take(alloc, settings, change, line) {
@@ -67,8 +69,10 @@ fn take_line<T: Taker>(
     torn: bool,
     line: &[u8],
 ) -> Result<Option<bool>, Memory>
+    requires ready { T.ready taker.old }
     requires short { length line.now ≤ line_limit }
     ensures takes { IfOk result (TakesLine T.Has settings.now torn line.now taker.old taker.new) }
+    ensures ready { OnOk result (T.ready taker.new) }
 {
     if torn {
         return Ok(mends(line));
@@ -87,6 +91,7 @@ pub fn take_log<T: Taker, S: Source>(
 ) -> Result<Taken, Memory>
     requires fresh { IsFresh lines.old }
     requires limit { lines.old.limit ≡ settings.now.byte_limit }
+    requires ready { T.ready taker.old }
     requires nothing { T.Has taker.old settings.now [] [] }
     ensures takes { IfOk result
         (Takes T.Has settings.now (S.rest source.old) (S.rest source.new) taker.new) }

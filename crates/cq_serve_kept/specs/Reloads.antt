@@ -1,21 +1,51 @@
 -- What a hub has that took a log.
-use Rattle.std.specs.Prelude.{◌≡◌, ℕ, ◌+◌, List, None}
+use Rattle.std.specs.Prelude.{◌≡◌, ℕ, ◌+◌, Bool, true, false, List, [], ◌∷◌, ◌++◌, length, None}
+use Rattle.cq_base.specs.Settings.{IsInRange}
 use Rattle.cq_base.specs.declared.change.Change.{Change}
 use Rattle.cq_base.specs.declared.settings.Settings.{Settings}
 use Rattle.cq_cells.specs.Passes.{by_of}
 use Rattle.cq_chain.specs.Passes.{BoardPass, HasNoneFrom}
-use Rattle.cq_history.specs.State.{accepted, view_of}
+use Rattle.cq_history.specs.State.{accepted, ready, view_of}
+use Rattle.cq_log.specs.Logs.{is_accepted}
 use Rattle.cq_shared.specs.declared.shared.Shared.{Shared}
 use Rattle.cq_shared.specs.SharedPasses.{IsPassOf, OnlyFirstAccepts, callers_of, settings_of, state_of}
 
--- the pass is the hub's first, which alone accepts changes, and no other caller is made; no view is open, and these are the
--- accepted changes
-pub record HasTaken {W R : Type 0} (hub : Shared W R) (p : BoardPass) (set : Settings) (changes : List Change) : Type 0 where
-  pub of : IsPassOf hub p
-  pub caller : by_of p ≡ 0
-  pub only : OnlyFirstAccepts hub
-  pub room : p.room + 1 ≡ callers_of hub
-  pub alone : HasNoneFrom 1 p.seen
-  pub closed : view_of (state_of hub p.seen) 0 ≡ None
-  pub settings : settings_of hub ≡ set
-  pub accepts : accepted p.seen ≡ changes
+module _ {W R : Type 0} (hub : Shared W R) where
+  -- the settings are in range and the hub's, of which it is a pass
+  pub record MayReload (set : Settings) (p : BoardPass) : Type 0 where
+    pub in_range : IsInRange set
+    pub settings : settings_of hub ≡ set
+    pub of : IsPassOf hub p
+
+  -- the pass is the hub's first, which alone accepts changes, and no other caller is made; no view is open, and these are the
+  -- accepted changes
+  pub record HasTaken (p : BoardPass) (set : Settings) (changes : List Change) : Type 0 where
+    pub of : IsPassOf hub p
+    pub caller : by_of p ≡ 0
+    pub only : OnlyFirstAccepts hub
+    pub room : p.room + 1 ≡ callers_of hub
+    pub alone : HasNoneFrom 1 p.seen
+    pub closed : view_of (state_of hub p.seen) 0 ≡ None
+    pub settings : settings_of hub ≡ set
+    pub accepts : accepted p.seen ≡ changes
+
+  -- the works of all accepted changes are done
+  abbrev pub IsDone : BoardPass → Type 0
+  IsDone p = ready (state_of hub p.seen) ≡ length (accepted p.seen)
+
+  -- the floor is at the last change
+  abbrev pub IsLow : BoardPass → Type 0
+  IsLow p = (state_of hub p.seen).floor ≡ length (accepted p.seen)
+
+  module _ (p q : BoardPass) where
+    -- what it had taken it still has
+    abbrev pub StaysTaken : Type 0
+    StaysTaken = (set : Settings) (changes : List Change) → HasTaken p set changes → HasTaken q set changes
+
+    -- it has taken the change too, which is accepted after those before it; or it is not
+    abbrev pub TakesAfter : Settings → List Change → Change → Bool → Type 0
+    TakesAfter set changes change true = (is_accepted set changes change ≡ true) × HasTaken q set (changes ++ change ∷ [])
+    TakesAfter set changes change false = is_accepted set changes change ≡ false
+
+    abbrev pub TakesChange : Change → Bool → Type 0
+    TakesChange change result = (set : Settings) (changes : List Change) → HasTaken p set changes → TakesAfter set changes change result

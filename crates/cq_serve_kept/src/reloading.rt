@@ -1,7 +1,9 @@
-ghost use Rattle.std.specs.Prelude.{◌≡◌, IfOk, OnOk};
-ghost use Rattle.cq_base.specs.Settings.{IsInRange};
-ghost use Rattle.cq_serve_kept.specs.Reloads.{HasTaken};
-ghost use Rattle.cq_shared.specs.SharedPasses.{IsPassOf, settings_of};
+ghost use Rattle.std.specs.Prelude.{◌≡◌, Ok, IfOk, OnOk};
+ghost use Rattle.cq_base.specs.Changes.{IsSoundChange};
+ghost use Rattle.cq_base.specs.declared.change.Change.{Change as Said};
+ghost use Rattle.cq_request.specs.Reading.{line_says};
+ghost use Rattle.cq_request.specs.declared.request.Request.TheVariants as request;
+ghost use Rattle.cq_serve_kept.specs.Reloads.{IsDone, IsLow, MayReload, StaysTaken, TakesChange};
 
 use cq_base::{Change, Memory, Settings};
 use cq_board::Refused;
@@ -26,7 +28,14 @@ pub(crate) struct Reloaded<'a, L: Ledger, R> {
 
 impl<'a, L: Ledger, R: Wait> Reloaded<'a, L, R> {
     // The works of all changes are made.
-    fn make_works(&mut self, alloc: Global) -> Result<(), Memory> {
+    fn make_works(&mut self, alloc: Global) -> Result<(), Memory>
+        requires ready { MayReload self.old.hub.now self.old.keyer.now.settings self.old.pass }
+        ensures ready { OnOk result
+            (MayReload self.new.hub.now self.new.keyer.now.settings self.new.pass) }
+        ensures same { (self.new.hub.now ≡ self.old.hub.now) × (self.new.keyer.now.settings ≡ self.old.keyer.now.settings) }
+        ensures still { OnOk result (StaysTaken self.old.hub.now self.old.pass self.new.pass) }
+        ensures done { OnOk result (IsDone self.old.hub.now self.new.pass) }
+    {
         'works: for _ in 0..u64::MAX {
             let Some(job) = self.hub.take(&mut self.pass)? else {
                 break;
@@ -38,7 +47,14 @@ impl<'a, L: Ledger, R: Wait> Reloaded<'a, L, R> {
     }
 
     // Publishes all changes, and lets go of what the last version doesn't need.
-    fn ease(&mut self, alloc: Global) -> Result<(), Memory> {
+    fn ease(&mut self, alloc: Global) -> Result<(), Memory>
+        requires ready { MayReload self.old.hub.now self.old.keyer.now.settings self.old.pass }
+        ensures ready { OnOk result
+            (MayReload self.new.hub.now self.new.keyer.now.settings self.new.pass) }
+        ensures same { (self.new.hub.now ≡ self.old.hub.now) × (self.new.keyer.now.settings ≡ self.old.keyer.now.settings) }
+        ensures still { OnOk result (StaysTaken self.old.hub.now self.old.pass self.new.pass) }
+        ensures low { OnOk result (IsLow self.old.hub.now self.new.pass) }
+    {
         self.make_works(alloc)?;
         let asked = self.hub.ask(&mut self.pass);
         let _version = self
@@ -48,8 +64,16 @@ impl<'a, L: Ledger, R: Wait> Reloaded<'a, L, R> {
         Ok(())
     }
 
-    // Accepts a change, and answers whether it is accepted.
-    fn accept(&mut self, alloc: Global, change: Change) -> Result<bool, Memory> {
+    // Accepts a change with the floor at the last one, and answers whether it is accepted.
+    fn accept(&mut self, alloc: Global, change: Change) -> Result<bool, Memory>
+        requires ready { MayReload self.old.hub.now self.old.keyer.now.settings self.old.pass }
+        requires sound { IsSoundChange change }
+        requires low { IsLow self.old.hub.now self.old.pass }
+        ensures ready { OnOk result
+            (MayReload self.new.hub.now self.new.keyer.now.settings self.new.pass) }
+        ensures same { (self.new.hub.now ≡ self.old.hub.now) × (self.new.keyer.now.settings ≡ self.old.keyer.now.settings) }
+        ensures takes { IfOk result (TakesChange self.old.hub.now self.old.pass self.new.pass change) }
+    {
         match self.hub.accept(alloc, change, &mut self.pass) {
             Ok(_number) => Ok(true),
             Err(Refused::Memory) => Err(Memory),
@@ -65,7 +89,15 @@ impl<'a, L: Ledger, R: Wait> Reloaded<'a, L, R> {
         alloc: Global,
         settings: &Settings,
         line: &[u8],
-    ) -> Result<bool, Memory> {
+    ) -> Result<bool, Memory>
+        ghost change: { Said }
+        requires ready { MayReload self.old.hub.now self.old.keyer.now.settings self.old.pass }
+        requires says { line_says settings.now.chunk line.now ≡ Ok (request.Change change) }
+        ensures ready { OnOk result
+            (MayReload self.new.hub.now self.new.keyer.now.settings self.new.pass) }
+        ensures same { (self.new.hub.now ≡ self.old.hub.now) × (self.new.keyer.now.settings ≡ self.old.keyer.now.settings) }
+        ensures takes { IfOk result (TakesChange self.old.hub.now self.old.pass self.new.pass change) }
+    {
         self.ease(alloc)?;
         match read_request(alloc, settings, line) {
             Ok(Request::Change(change)) => self.accept(alloc, change),
@@ -77,9 +109,11 @@ impl<'a, L: Ledger, R: Wait> Reloaded<'a, L, R> {
 }
 
 impl<'a, L: Ledger, R: Wait> Taker for Reloaded<'a, L, R> {
-    ghost use Rattle.cq_serve_kept.specs.Reloads.{HasTaken};
+    ghost use Rattle.cq_serve_kept.specs.Reloads.{HasTaken, MayReload};
 
     ghost Has = { λ taker set lines changes. HasTaken taker.hub.now taker.pass set changes };
+
+    ghost ready = { λ taker. MayReload taker.hub.now taker.keyer.now.settings taker.pass };
 
     fn take(
         &mut self,

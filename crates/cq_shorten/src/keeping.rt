@@ -89,6 +89,8 @@ impl Taker for Shortener {
 
     ghost Has = { Has };
 
+    ghost ready = { λ taker. Unit {0} };
+
     fn take(
         &mut self,
         alloc: Global,

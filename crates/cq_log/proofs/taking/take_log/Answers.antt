@@ -7,6 +7,7 @@ use Rattle.cq_log.proofs.taking.take_log.Goals as goal
 pub lines-init : goal.lines-init
 lines-init g c = record {
   goes = none_taken g.T.Taker.Has c.args.settings.now (g.S.Source.rest c.args.source.now) c.args.lines.now c.args.taker.now c.requires.fresh c.requires.limit c.requires.nothing;
+  ready = c.requires.ready;
   faults = refl;
   unclosed = sym c.requires.fresh.over;
 }
@@ -47,6 +48,7 @@ lines-preserved g c =
       goes =
           one_taken g.T.Taker.Has c.args.settings.now _ _ _ _ _ _ _ cuts.got c.in-Line.line.now c.lines.invariant.goes cuts.bytes cuts.taken cuts.within cuts.limit (λ e. (cuts.stays e).0) cuts.finds.1 c.take_line.new.taker c.in-Ok-Some.now
           (rw c.in-Ok-Some.field-0-is at c.in-Ok-Some.ensures.takes);
+      ready = c.in-Ok-Some.ensures.ready;
       faults = c.in-Line.ensures.cause ∙ c.lines.invariant.faults;
       unclosed = c.is_over-unclosed.ensures;
     }

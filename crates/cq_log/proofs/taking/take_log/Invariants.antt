@@ -5,6 +5,7 @@ use Rattle.cq_log.proofs.taking.take_log.Given as goal
 abbrev pub invariant-lines : goal.invariant-lines
 invariant-lines g l = record {
   goes : TakenSoFar g.T.Taker.Has l.settings (g.S.Source.rest l.fn.source) (g.S.Source.rest l.source) l.lines l.torn l.taker;
+  ready : g.T.Taker.ready l.taker;
   faults : g.S.Source.faults l.source ≡ g.S.Source.faults l.fn.source;
   unclosed : l.unclosed ≡ l.lines.over;
 }
