@@ -90,13 +90,13 @@ impl<'a, L: Ledger, R: Wait> Reloaded<'a, L, R> {
         settings: &Settings,
         line: &[u8],
     ) -> Result<bool, Memory>
-        ghost change: { Said }
+        ghost wanted: { Said }
         requires ready { MayReload self.old.hub.now self.old.keyer.now.settings self.old.pass }
-        requires says { line_says settings.now.chunk line.now ≡ Ok (request.Change change) }
+        requires says { line_says settings.now.chunk line.now ≡ Ok (request.Change wanted) }
         ensures ready { OnOk result
             (MayReload self.new.hub.now self.new.keyer.now.settings self.new.pass) }
         ensures same { (self.new.hub.now ≡ self.old.hub.now) × (self.new.keyer.now.settings ≡ self.old.keyer.now.settings) }
-        ensures takes { IfOk result (TakesChange self.old.hub.now self.old.pass self.new.pass change) }
+        ensures takes { IfOk result (TakesChange self.old.hub.now self.old.pass self.new.pass wanted) }
     {
         self.ease(alloc)?;
         match read_request(alloc, settings, line) {
