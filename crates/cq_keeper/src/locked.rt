@@ -24,7 +24,7 @@ use std::sync::Wait;
 /// What is in the lock: the log, and the pass of the first caller, which has seen each acceptance. If each line was written
 /// whole, the lines that were written are those of the accepted changes. Contracts see whether each was.
 #[derive(Drop)]
-pub struct Locked<'a, W: Indexed, K, N: LogOf> {
+pub struct Locked<'a, W: Indexed, K: Sink, N: LogOf> {
     log: LineLog<'a, K>,
     pass: Pass<W>,
     of: PhantomData<N>,

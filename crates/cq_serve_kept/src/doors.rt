@@ -10,7 +10,7 @@ use std::sync::Wait;
 /// The doors of a server that keeps a log: they end once a line could not be kept. They don't report how many connections are
 /// to come.
 #[derive(Drop)]
-pub(crate) struct KeptDoors<'a, 's, D, Q, W: Indexed, K, N: LogOf> {
+pub(crate) struct KeptDoors<'a, 's, D, Q, W: Indexed, K: Sink, N: LogOf> {
     pub doors: &'a mut D,
     pub log: &'a Log<'a, 's, Q, W, K, N>,
 }

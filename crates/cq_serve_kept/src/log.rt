@@ -16,7 +16,7 @@ use std::sync::{Mutex, Wait};
 
 /// A log that the sessions of a server share.
 #[derive(Drop)]
-pub struct Log<'a, 's, Q, W: Indexed, K, N: LogOf> {
+pub struct Log<'a, 's, Q, W: Indexed, K: Sink, N: LogOf> {
     rt: &'a Q,
     locked: Mutex<Locked<'s, W, K, N>>,
 }

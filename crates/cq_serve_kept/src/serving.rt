@@ -54,7 +54,7 @@ fn take_back<K>(sink: &mut K)
 fn serve_logging<
     Q: Threads + Wait + Sync,
     L: Ledger + Send + Sync,
-    N: LogOf,
+    N: LogOf + Send,
     K: Sink + Send,
     I: Source + Send + Drop,
     O: Sink + Send + Drop,
@@ -89,10 +89,12 @@ fn serve_logging<
         (EndsTaken K.Sink settings.now [] (accepted pass.seen) sink.old sink.new) }
 {
     let log: Log<'_, '_, Q, Work<L>, K, N> = Log::new(rt, sink, pass);
-    let mut doors = KeptDoors { doors, log: &log };
-    let served = serve_over(
-        rt, alloc, settings, counters, hub, &log, passes, &mut doors, gate,
-    )?;
+    let served = {
+        let mut doors = KeptDoors { doors, log: &log };
+        serve_over(
+            rt, alloc, settings, counters, hub, &log, passes, &mut doors, gate,
+        )?
+    };
     let (log, _pass) = log.into_log();
     let LineLog { sink, whole } = log;
     take_back(sink);
