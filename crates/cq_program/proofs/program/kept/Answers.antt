@@ -6,7 +6,7 @@ use Rattle.cq_program.proofs.Ended.{ended_asked}
 use Rattle.cq_program.proofs.program.kept.Goals as goal
 
 pub ask-requires : goal.ask-requires
-ask-requires g c κs lives = record { in_range = subst IsInRange (sym c.plain-keyer.ensures) c.requires.in_range }
+ask-requires g c = record { in_range = subst IsInRange (sym c.plain-keyer.ensures) c.requires.in_range }
 
 pub returns-in-Ok-clause-ends : goal.returns-in-Ok-clause-ends
 returns-in-Ok-clause-ends g c =
@@ -20,5 +20,5 @@ returns-in-Ok-clause-asks g c = λ other. record {
   asks = rw c.plain-keyer.ensures at c.in-Ok.ensures.asks;
 }
 
-pub returns-in-Err-clause-no_line : goal.returns-in-Err-clause-no_line
-returns-in-Err-clause-no_line g c = λ is. rw c.plain-keyer.ensures at c.in-Err.ensures.no_line
+pub returns-clause-no_line : goal.returns-clause-no_line
+returns-clause-no_line g c = λ is. rw c.plain-keyer.ensures at c.in-Err.ensures.no_line
