@@ -6,7 +6,7 @@ use Rattle.cq_program.proofs.Ended.{ended_asked}
 use Rattle.cq_program.proofs.program.kept.Goals as goal
 
 pub ask-requires : goal.ask-requires
-ask-requires g c = record { in_range = subst IsInRange (sym c.plain-keyer.ensures) c.requires.in_range }
+ask-requires g c = (search, subst IsInRange (sym c.plain-keyer.ensures) c.requires.in_range)
 
 pub returns-in-Ok-clause-ends : goal.returns-in-Ok-clause-ends
 returns-in-Ok-clause-ends g c =
