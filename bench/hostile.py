@@ -380,11 +380,12 @@ def of_texts() -> Iterator[Shape]:
 SHORT = ("--chunk", "2")
 TABLE = [
     Shape("rows", "equal tokens in one file", 20_000, "n log n", lambda n: listed([row(n)])),
-    Shape("rows", "equal tokens in each of two files", 2_500, "n log n", lambda n: listed([row(n)] * 2)),
-    Shape("rows", "equal tokens in each of twenty files", 500, "n log n", lambda n: listed([row(n)] * 20)),
-    Shape("rows", "two rows of equal tokens in one file", 2_500, "n log n", lambda n: listed([row(n) + " s " + row(n)])),
-    Shape("rows", "a period of 2 in each of two files", 5_000, "n log n", lambda n: listed([row(n, 2)] * 2)),
-    Shape("rows", "a period of 7 in each of two files", 5_000, "n log n", lambda n: listed([row(n, 7)] * 2)),
+    Shape("rows", "equal tokens in each of two files", 20_000, "n log n", lambda n: listed([row(n)] * 2)),
+    Shape("rows", "equal tokens in each of twenty files", 5_000, "n log n", lambda n: listed([row(n)] * 20)),
+    Shape("rows", "two rows of equal tokens in one file", 20_000, "n log n", lambda n: listed([row(n) + " s " + row(n)])),
+    Shape("rows", "a period of 2 in each of two files", 20_000, "n log n", lambda n: listed([row(n, 2)] * 2)),
+    Shape("rows", "a period of 7 in each of two files", 20_000, "n log n", lambda n: listed([row(n, 7)] * 2)),
+    Shape("rows", "a period of 7 in each of twenty files", 5_000, "n log n", lambda n: listed([row(n, 7)] * 20)),
     Shape("rows", "a period of √n in each of two files", 10_000, "n log n", lambda n: listed([row(n, math.isqrt(n))] * 2)),
     Shape("rows", "rows of 100 equal tokens, a different one after each", 10_000, "n log n", lambda n: listed([rows(n, 100, "s{}".format)])),
     Shape("rows", "rows of 100 equal tokens, the same one after each", 10_000, "n log n", lambda n: listed([rows(n, 100, lambda _: "s")])),
@@ -394,7 +395,7 @@ TABLE = [
     Shape("rows", "a row within each of two equal files", 5_000, "n log n", lambda n: listed([words(n) + " " + row(n) + " " + words(n, 2)] * 2)),
     Shape("rows", "a table of numbers of C, mostly zeros", 20_000, "n log n", lambda n: listed([numbers_of_c(n)], "c")),
     Shape("rows", "measures of equal tokens in one file", 20_000, "n log n", lambda n: listed([row(n)], op="measures")),
-    Shape("rows", "measures of equal tokens in each of two files", 2_500, "n log n", lambda n: listed([row(n)] * 2, op="measures")),
+    Shape("rows", "measures of equal tokens in each of two files", 16_000, "n log n", lambda n: listed([row(n)] * 2, op="measures")),
     Shape("rows", "measures of equal tokens, each in a line", 20_000, "n log n", lambda n: listed([row(n).replace(" ", "\n")], op="measures")),
 
     Shape("words", "two copies of a file", 25_000, "n log n", lambda n: listed([words(n)] * 2)),

@@ -28,7 +28,7 @@ import threading
 import time
 from pathlib import Path
 
-from load import Connection, free_address, must
+from load import Connection, free_address, must, percentile
 
 ROOT = Path(__file__).resolve().parent.parent
 PROGRAM = str(Path(os.environ.get("CQD", ROOT / "cqd")).resolve())
@@ -103,18 +103,14 @@ def peak(process):
     return 0.0
 
 
-def percentile(times, hundredth):
-    return sorted(times)[min(len(times) - 1, len(times) * hundredth // 100)] * 1e6
-
-
 class Part:
     """The figures of one tenth, in microseconds and MiB."""
 
     def __init__(self, told, memory, seconds):
         puts = [it for part, _ in told for it in part]
         asked = [it for _, part in told for it in part] or [0.0]
-        self.put, self.put_99 = statistics.median(puts) * 1e6, percentile(puts, 99)
-        self.asked, self.asked_99 = statistics.median(asked) * 1e6, percentile(asked, 99)
+        self.put, self.put_99 = statistics.median(puts) * 1e6, percentile(puts, 99) * 1e6
+        self.asked, self.asked_99 = statistics.median(asked) * 1e6, percentile(asked, 99) * 1e6
         self.memory, self.seconds = memory, seconds
 
     def line(self, number):

@@ -2,18 +2,18 @@
 """Runs `cqd listen` with many clients at once, and checks every reply.
 
 usage: bench/load.py [--clients N] [--turns N] [--workers N] [--sessions N]
-       bench/load.py --commit [--files N] [--workers N]
+       bench/load.py --commit [--files N] [--workers N] [--asking N]
 
 Each client, in a process of its own, uploads and drops files and sets gates in a project of its own, asks every query, sends broken
 lines, and now and then breaks off in the middle of a line and comes back over another connection. It checks that replies come in the
 order of their lines; that no version, change or publication is older than one that was reported before; and that files, measures and
 verdicts are exactly those of what it uploaded. After the last client, the numbers of `state` must add up, and the server must exit with
 0 after the last of its connections. Printed are the replies per second, and for each kind of request how many there were, and the
-median and the slowest reply.
+median, the 99th percentile and the slowest reply.
 
-With --commit one client uploads many files and has them analysed and published by a query, while seven others ask for the groups of a
-file with `finish` false, and one neither sends nor reads. Printed are the seconds of that commit, and the median and the slowest of the
-others' replies meanwhile.
+With --commit one client uploads many files and has them analysed and published by a query, while --asking others (7) ask for the groups of
+a file with `finish` false, and one neither sends nor reads. Printed are the seconds of that commit, and the median, the 99th percentile
+and the slowest of the others' replies meanwhile. If there are fewer processors than clients and workers, some wait for one.
 
 The program is ./cqd, or what the variable CQD names.
 """
@@ -85,6 +85,16 @@ class Connection:
     def close(self):
         self.replies.close()
         self.socket.close()
+
+
+def percentile(times, hundredth):
+    return sorted(times)[min(len(times) - 1, len(times) * hundredth // 100)]
+
+
+def spread(times):
+    """The median, the 99th percentile and the slowest of some times."""
+    return (f"median {statistics.median(times) * 1000:7.2f} ms, 99th percentile {percentile(times, 99) * 1000:7.2f} ms,"
+            f" slowest {max(times) * 1000:7.2f} ms")
 
 
 def must(holds, request, reply):
@@ -225,7 +235,7 @@ def load(clients, turns, workers, sessions):
     count = sum(map(len, by_kind.values()))
     print(f"{clients} clients, {workers} workers, {sessions} sessions: {count} replies in {seconds:.2f} s, {count / seconds:,.0f} a second")
     for kind, times in sorted(by_kind.items()):
-        print(f"{kind:>9}: {len(times):6}, median {statistics.median(times) * 1000:7.2f} ms, slowest {max(times) * 1000:7.2f} ms")
+        print(f"{kind:>9}: {len(times):6}, {spread(times)}")
 
 
 def ask_on(address, number, is_over, times):
@@ -260,8 +270,8 @@ def put_all(connection, lines):
     writer.join()
 
 
-def commit(files, workers):
-    clients, lines = 7, lines_of(files)
+def commit(files, workers, clients):
+    lines = lines_of(files)
     server = Server(clients + 2, workers, clients + 2)
     silent = Connection(server.address)
     one = Connection(server.address)
@@ -282,10 +292,9 @@ def commit(files, workers):
     one.close()
     silent.close()
     server.end()
-    waited = [it for it, _ in told]
     print(f"{files} files of 3,000 tokens, {workers} workers: accepted in {accepted - start:.2f} s, published {seconds:.2f} s later")
-    print(f"  {len(told)} queries with finish false meanwhile, {sum(ok for _, ok in told)} answered and the others refused as pending:"
-          f" median {statistics.median(waited) * 1000:.2f} ms, slowest {max(waited) * 1000:.2f} ms")
+    print(f"  {len(told)} queries of {clients} clients with finish false meanwhile, {sum(ok for _, ok in told)} answered and the others refused"
+          f" as pending: {spread([it for it, _ in told])}")
 
 
 def main():
@@ -296,9 +305,10 @@ def main():
     parser.add_argument("--sessions", type=int, default=8)
     parser.add_argument("--commit", action="store_true")
     parser.add_argument("--files", type=int, default=1000)
+    parser.add_argument("--asking", type=int, default=7, help="clients that ask during --commit")
     given = parser.parse_args()
     if given.commit:
-        commit(given.files, given.workers)
+        commit(given.files, given.workers, given.asking)
     else:
         load(given.clients, given.turns, given.workers, given.sessions)
 
