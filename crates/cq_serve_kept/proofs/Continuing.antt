@@ -1,24 +1,22 @@
 -- The lines of accepted changes continue a log.
-use Rattle.std.proofs.Common.{◌≡◌, ℕ, ◌≤◌, Bool, true, false, List, [], ◌∷◌, ◌++◌, length, Option, Some, None, refl, sym, ap, ◌∙◌, subst, arith, append-nil, append_assoc}
+use Rattle.std.proofs.Common.{◌≡◌, ℕ, Bool, true, false, List, [], ◌∷◌, ◌++◌, length, Option, None, refl, sym, ap, ◌∙◌, subst, arith, append-nil, append_assoc}
 use Rattle.std.specs.Prelude.{is_none}
 use Rattle.cq_base.specs.declared.change.Change.{Change}
 use Rattle.cq_base.specs.declared.settings.Settings.{Settings}
-use Rattle.cq_board.specs.Answers.{cause_among, refusal_of}
+use Rattle.cq_board.specs.Answers.{cause_among}
 use Rattle.cq_board.specs.declared.answers.Refused.{Refused}
 use Rattle.cq_history.specs.declared.event.Event.{Event}
 use Rattle.cq_history.specs.declared.event.Event.TheVariants.{Accept, Ask, Took, Back, Done, Publish, Open, Shut, Floor}
-use Rattle.cq_history.specs.Lawful.{Allowed, Lawful, is_absent, is_full, is_long}
+use Rattle.cq_history.specs.Lawful.{Lawful, is_absent, is_full, is_long}
 use Rattle.cq_history.specs.State.{State, state, accepted}
 use Rattle.cq_history.proofs.Bounds.{in_order}
 use Rattle.cq_history.proofs.Prefixes.{accepted-append}
 use Rattle.cq_history.proofs.States.{Lawful-prefix, Lawful_last}
-use Rattle.cq_keep.specs.Saying.{Says}
 use Rattle.cq_keeper.specs.Kept.{SayAll}
 use Rattle.cq_log.specs.Laws.{ContinueWith}
 use Rattle.cq_log.specs.Logs.{is_accepted}
-use Rattle.cq_request.specs.declared.request.Request.TheVariants as request
 use Rattle.cq_talk.specs.Causes.{cause}
-use Rattle.cq_talk.specs.Said.{Read, said}
+use Rattle.cq_talk.specs.Said.{Read}
 use Rattle.cq_talk.proofs.Causing.{cause_is}
 use Rattle.cq_talk.proofs.Rooming.{none_higher}
 use Rattle.cq_talk.proofs.Saying.{said_short}

@@ -1,5 +1,5 @@
 -- What a server has written when its log comes out of the lock.
-use Rattle.std.proofs.Common.{◌≡◌, ℕ, Bool, true, false, List, [], ◌∷◌, ◌++◌, refl, sym, ap, ◌∙◌, subst, append-nil, append_assoc}
+use Rattle.std.proofs.Common.{◌≡◌, ℕ, true, false, List, [], ◌∷◌, ◌++◌, refl, sym, ap, ◌∙◌, subst, append-nil, append_assoc}
 use Rattle.std.specs.Prelude.{flat_map, Option}
 use Rattle.std.proofs.lemmas.Grind.{flat_map-append}
 use Rattle.std.specs.Io.KnownBytes.{Appends}
@@ -16,7 +16,7 @@ use Rattle.cq_keeper.specs.declared.naming.LogOf as log_of
 use Rattle.cq_lines.specs.Pieces.{ended}
 use Rattle.cq_shared.specs.SharedPasses.{callers_of, cells_of, settings_of}
 use Rattle.cq_shared.specs.declared.shared.Shared.{Shared}
-use Rattle.cq_serve_kept.specs.Continued.{Continues, ContinuesBroken, ContinuesWhole}
+use Rattle.cq_serve_kept.specs.Continued.{ContinuesBroken, ContinuesWhole}
 use Rattle.cq_serve_kept.proofs.Continuing.{continue_with}
 
 say_last : (chunk : ℕ) (lines : List (List ℕ)) (changes : List Change) (line : List ℕ) (change : Change) → SayAll chunk lines changes → Says chunk line change → SayAll chunk (lines ++ line ∷ []) (changes ++ change ∷ [])

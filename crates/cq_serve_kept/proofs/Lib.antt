@@ -1,2 +1,4 @@
 pub mod Continuing
 pub mod Ending
+pub mod Reloading
+pub mod Lowering

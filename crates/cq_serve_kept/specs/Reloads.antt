@@ -1,14 +1,15 @@
 -- What a hub has that took a log.
-use Rattle.std.specs.Prelude.{◌≡◌, ℕ, ◌+◌, Bool, true, false, List, [], ◌∷◌, ◌++◌, length, None}
+use Rattle.std.specs.Prelude.{◌≡◌, Bool, true, false, List, [], ◌∷◌, ◌++◌, length}
 use Rattle.cq_base.specs.Settings.{IsInRange}
 use Rattle.cq_base.specs.declared.change.Change.{Change}
 use Rattle.cq_base.specs.declared.settings.Settings.{Settings}
 use Rattle.cq_cells.specs.Passes.{by_of}
-use Rattle.cq_chain.specs.Passes.{BoardPass, HasNoneFrom}
-use Rattle.cq_history.specs.State.{accepted, ready, view_of}
+use Rattle.cq_chain.specs.Passes.{BoardPass}
+use Rattle.cq_history.specs.State.{accepted, ready}
 use Rattle.cq_log.specs.Logs.{is_accepted}
+use Rattle.cq_serve.specs.Turns.{AtEase}
 use Rattle.cq_shared.specs.declared.shared.Shared.{Shared}
-use Rattle.cq_shared.specs.SharedPasses.{IsPassOf, OnlyFirstAccepts, callers_of, settings_of, state_of}
+use Rattle.cq_shared.specs.SharedPasses.{IsPassOf, OnlyFirstAccepts, settings_of, state_of}
 
 module _ {W R : Type 0} (hub : Shared W R) where
   -- the settings are in range and the hub's, of which it is a pass
@@ -17,15 +18,14 @@ module _ {W R : Type 0} (hub : Shared W R) where
     pub settings : settings_of hub ≡ set
     pub of : IsPassOf hub p
 
-  -- the pass is the hub's first, which alone accepts changes, and no other caller is made; no view is open, and these are the
-  -- accepted changes
+  -- the pass is the hub's first, which alone accepts changes, and has made no other caller; it has no view open and nothing
+  -- in hand, and these are the accepted changes
   pub record HasTaken (p : BoardPass) (set : Settings) (changes : List Change) : Type 0 where
     pub of : IsPassOf hub p
     pub caller : by_of p ≡ 0
     pub only : OnlyFirstAccepts hub
-    pub room : p.room + 1 ≡ callers_of hub
-    pub alone : HasNoneFrom 1 p.seen
-    pub closed : view_of (state_of hub p.seen) 0 ≡ None
+    pub next : p.next ≡ 1
+    pub ease : AtEase (state_of hub p.seen) 0
     pub settings : settings_of hub ≡ set
     pub accepts : accepted p.seen ≡ changes
 
@@ -42,6 +42,14 @@ module _ {W R : Type 0} (hub : Shared W R) where
     abbrev pub StaysTaken : Type 0
     StaysTaken = (set : Settings) (changes : List Change) → HasTaken p set changes → HasTaken q set changes
 
+    -- and their works are done
+    abbrev pub StaysDone : Type 0
+    StaysDone = (set : Settings) (changes : List Change) → HasTaken p set changes → HasTaken q set changes × IsDone q
+
+    -- and the floor is at the last of them
+    abbrev pub StaysLow : Type 0
+    StaysLow = (set : Settings) (changes : List Change) → HasTaken p set changes → HasTaken q set changes × IsLow q
+
     -- it has taken the change too, which is accepted after those before it; or it is not
     abbrev pub TakesAfter : Settings → List Change → Change → Bool → Type 0
     TakesAfter set changes change true = (is_accepted set changes change ≡ true) × HasTaken q set (changes ++ change ∷ [])
@@ -49,3 +57,7 @@ module _ {W R : Type 0} (hub : Shared W R) where
 
     abbrev pub TakesChange : Change → Bool → Type 0
     TakesChange change result = (set : Settings) (changes : List Change) → HasTaken p set changes → TakesAfter set changes change result
+
+    -- the same where the floor was at the last change
+    abbrev pub TakesWhereLow : Change → Bool → Type 0
+    TakesWhereLow change result = (set : Settings) (changes : List Change) → HasTaken p set changes → IsLow p → TakesAfter set changes change result

@@ -3,7 +3,7 @@ ghost use Rattle.cq_base.specs.Changes.{IsSoundChange};
 ghost use Rattle.cq_base.specs.declared.change.Change.{Change as Said};
 ghost use Rattle.cq_request.specs.Reading.{line_says};
 ghost use Rattle.cq_request.specs.declared.request.Request.TheVariants as request;
-ghost use Rattle.cq_serve_kept.specs.Reloads.{IsDone, IsLow, MayReload, StaysTaken, TakesChange};
+ghost use Rattle.cq_serve_kept.specs.Reloads.{MayReload, StaysDone, StaysLow, TakesChange, TakesWhereLow};
 
 use cq_base::{Change, Memory, Settings};
 use cq_board::Refused;
@@ -33,17 +33,17 @@ impl<'a, L: Ledger, R: Wait> Reloaded<'a, L, R> {
         ensures ready { OnOk result
             (MayReload self.new.hub.now self.new.keyer.now.settings self.new.pass) }
         ensures same { (self.new.hub.now ≡ self.old.hub.now) × (self.new.keyer.now.settings ≡ self.old.keyer.now.settings) }
-        ensures still { OnOk result (StaysTaken self.old.hub.now self.old.pass self.new.pass) }
-        ensures done { OnOk result (IsDone self.old.hub.now self.new.pass) }
+        ensures done { OnOk result (StaysDone self.old.hub.now self.old.pass self.new.pass) }
     {
         'works: for _ in 0..u64::MAX {
             let Some(job) = self.hub.take(&mut self.pass)? else {
-                break;
+                return Ok(());
             };
             let work = work_for(alloc, self.keyer, job.lang, &job.text)?;
             let _finished = self.hub.finish(job.change, work, &mut self.pass);
         }
-        Ok(())
+        // Not reached: each work was made once, and fewer changes are accepted.
+        Err(Memory)
     }
 
     // Publishes all changes, and lets go of what the last version doesn't need.
@@ -52,8 +52,7 @@ impl<'a, L: Ledger, R: Wait> Reloaded<'a, L, R> {
         ensures ready { OnOk result
             (MayReload self.new.hub.now self.new.keyer.now.settings self.new.pass) }
         ensures same { (self.new.hub.now ≡ self.old.hub.now) × (self.new.keyer.now.settings ≡ self.old.keyer.now.settings) }
-        ensures still { OnOk result (StaysTaken self.old.hub.now self.old.pass self.new.pass) }
-        ensures low { OnOk result (IsLow self.old.hub.now self.new.pass) }
+        ensures low { OnOk result (StaysLow self.old.hub.now self.old.pass self.new.pass) }
     {
         self.make_works(alloc)?;
         let asked = self.hub.ask(&mut self.pass);
@@ -64,15 +63,14 @@ impl<'a, L: Ledger, R: Wait> Reloaded<'a, L, R> {
         Ok(())
     }
 
-    // Accepts a change with the floor at the last one, and answers whether it is accepted.
+    // Accepts a change, and answers whether it is accepted, where the floor is at the last one.
     fn accept(&mut self, alloc: Global, change: Change) -> Result<bool, Memory>
         requires ready { MayReload self.old.hub.now self.old.keyer.now.settings self.old.pass }
         requires sound { IsSoundChange change }
-        requires low { IsLow self.old.hub.now self.old.pass }
         ensures ready { OnOk result
             (MayReload self.new.hub.now self.new.keyer.now.settings self.new.pass) }
         ensures same { (self.new.hub.now ≡ self.old.hub.now) × (self.new.keyer.now.settings ≡ self.old.keyer.now.settings) }
-        ensures takes { IfOk result (TakesChange self.old.hub.now self.old.pass self.new.pass change) }
+        ensures takes { IfOk result (TakesWhereLow self.old.hub.now self.old.pass self.new.pass change) }
     {
         match self.hub.accept(alloc, change, &mut self.pass) {
             Ok(_number) => Ok(true),
