@@ -19,6 +19,7 @@ pub fn passes_of<W: Indexed, R>(
     requires room { number ≤ pass.old.room }
     ensures idle { IsIdle hub.now pass.new }
     ensures caller { by_of pass.new ≡ by_of pass.old }
+    ensures seen { pass.new.seen ≡ pass.old.seen }
     ensures room { OnOk result (pass.new.room + number ≡ pass.old.room) }
     ensures number { IfOk result (λ passes. vec_len passes ≡ number) }
     ensures each { IfOk result (λ passes. All (IsIdle hub.now) passes.items) }

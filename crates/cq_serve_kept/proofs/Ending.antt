@@ -1,16 +1,20 @@
 -- What a server has written when its log comes out of the lock.
-use Rattle.std.proofs.Common.{◌≡◌, ℕ, true, false, List, [], ◌∷◌, ◌++◌, refl, sym, ap, ◌∙◌, subst, append-nil, append_assoc}
+use Rattle.std.proofs.Common.{◌≡◌, ℕ, true, false, List, [], ◌∷◌, ◌++◌, refl, sym, ap, ◌∙◌, subst, append-nil, append_assoc, true≢false}
+use Rattle.std.proofs.KnownBytes.{Appends-nil}
 use Rattle.std.specs.Prelude.{flat_map, Option}
 use Rattle.std.proofs.lemmas.Grind.{flat_map-append}
 use Rattle.std.specs.Io.KnownBytes.{Appends}
 use Rattle.cq_base.specs.declared.change.Change.{Change}
 use Rattle.cq_base.specs.declared.settings.Settings.{Settings}
+use Rattle.cq_chain.specs.Passes as chain
 use Rattle.cq_chain.specs.Passes.{BoardPass}
 use Rattle.cq_history.specs.Lawful.{Lawful}
+use Rattle.cq_history.specs.State.{accepted}
 use Rattle.cq_io.specs.Causes.{Rose}
 use Rattle.cq_io.specs.declared.sink.Sink as sink
 use Rattle.cq_keep.specs.LineLogs.{log_at}
 use Rattle.cq_keep.specs.Saying.{Says}
+use Rattle.cq_keeper.specs.Firsts.{IsFirst}
 use Rattle.cq_keeper.specs.Kept.{IsLogOf, SayAll}
 use Rattle.cq_keeper.specs.declared.naming.LogOf as log_of
 use Rattle.cq_lines.specs.Pieces.{ended}
@@ -34,6 +38,19 @@ module _ {K N W R : Type 0} (onto : sink.Ghosts K) (of : log_of.Ghosts N) (hub :
 
   from_here : (bytes : List ℕ) → Appends of.begun (onto.written written_now) bytes → Appends (onto.written written) (onto.written written_now) bytes
   from_here bytes is = subst (λ (w : Option (List ℕ)). Appends w (onto.written written_now) bytes) begun is
+
+  -- before the first line
+  pub log_begins : IsFirst hub p → accepted p.seen ≡ of.before → IsLogOf onto of (log_at written true) p
+  log_begins is all = record {
+    cells = subst (λ cells. chain.IsPassOf cells p) here is.of.of;
+    free = is.of.free;
+    caller = is.caller;
+    only = sym (ap (λ cells. cells.about.first_only) here) ∙ is.only;
+    since = [];
+    accepts = all ∙ sym (append-nil of.before);
+    whole = λ whole. (record { lines = []; say = tt; written = subst (λ (w : Option (List ℕ)). Appends w (onto.written written) []) (sym begun) (Appends-nil (onto.written written)) }, sym faults);
+    cut_off = λ broken. absurd (true≢false broken);
+  }
 
   -- each line was written whole
   pub all_written : IsLogOf onto of (log_at written_now true) p → ContinuesWhole onto set [] before written written_now

@@ -2,3 +2,4 @@ pub mod Continuing
 pub mod Ending
 pub mod Reloading
 pub mod Lowering
+pub mod Mended

@@ -1,7 +1,6 @@
 -- What the first pass of a hub knows that let go of all that it can, and why a change is not taken then.
 use Rattle.std.proofs.Common.{◌≡◌, ◌≢◌, ◌⊎◌, ℕ, zero, suc, ◌+◌, ◌-◌, ◌<◌, ◌≤◌, Bool, true, false, not, ◌&&◌, List, [], ◌∷◌, ◌++◌, length, fold, get_or, Option, Some, None, refl, sym, ap, ◌∙◌, subst, ⊎_elim, arith, append-nil, true≢false}
 use Rattle.std.specs.Prelude.{is_none, Contains}
-use Rattle.std.specs.List.{position_or_len}
 use Rattle.std.proofs.lemmas.List.Sums.{fails_before_first, prefix_len-le-length}
 use Rattle.cq_base.proofs.Lists.{Contains-nil}
 use Rattle.cq_base.specs.declared.change.Change.{Change}
@@ -14,7 +13,7 @@ use Rattle.cq_board.specs.declared.answers.Refused.TheVariants as refused
 use Rattle.cq_cells.specs.Passes.{by_of}
 use Rattle.cq_chain.specs.Passes.{BoardPass}
 use Rattle.cq_history.specs.Lawful.{Lawful, is_absent, is_full, is_long}
-use Rattle.cq_history.specs.State.{Slot, accepted, is_done, is_free, no_slot, own, ready, slot_of, view_of, AreDoneUpTo, IsTakenBy}
+use Rattle.cq_history.specs.State.{accepted, is_done, is_free, no_slot, ready, slot_of, view_of, AreDoneUpTo, IsTakenBy}
 use Rattle.cq_history.specs.declared.event.Event.{Event}
 use Rattle.cq_history.specs.declared.event.Event.TheVariants.{Accept, Ask, Took}
 use Rattle.cq_history.proofs.Bounds.{in_order}

@@ -1,5 +1,5 @@
 -- What the calls of a hub do to what its first pass has taken, where no other caller is made.
-use Rattle.std.proofs.Common.{◌≡◌, ℕ, zero, suc, ◌+◌, ◌<◌, ◌≤◌, Bool, true, false, cond, List, [], ◌∷◌, ◌++◌, length, fold, get_or, Option, Some, None, refl, sym, ap, ap₂, ◌∙◌, subst, inl, inr, ⊎_elim, arith, append-nil}
+use Rattle.std.proofs.Common.{◌≡◌, ℕ, ◌+◌, ◌<◌, ◌≤◌, Bool, true, false, cond, List, [], ◌∷◌, ◌++◌, fold, Some, refl, sym, ap, ap₂, ◌∙◌, subst, arith, append-nil}
 use Rattle.std.specs.Prelude.{◌==◌, slice_index}
 use Rattle.std.specs.List.{AllByRecursion}
 use Rattle.cq_base.specs.declared.change.Change.{Change}
@@ -9,10 +9,9 @@ use Rattle.cq_chain.specs.Held.{IsOfFirst}
 use Rattle.cq_chain.specs.Passes.{BoardPass}
 use Rattle.cq_history.specs.Lasts.{holder_after, holder_in}
 use Rattle.cq_history.specs.Lawful.{Lawful}
-use Rattle.cq_history.specs.State.{State, accepted, maker, own, IsDone, IsUndone}
+use Rattle.cq_history.specs.State.{accepted, maker, own, IsDone, IsUndone}
 use Rattle.cq_history.specs.declared.event.Event.{Event}
 use Rattle.cq_history.specs.declared.event.Event.TheVariants.{Accept, Ask, Took, Back, Done, Publish, Open, Shut, Floor}
-use Rattle.cq_history.proofs.Doing as doing
 use Rattle.cq_history.proofs.Prefixes.{accepted-append}
 use Rattle.cq_hub.specs.Hubs.{Grows, Never}
 use Rattle.cq_hub.proofs.Following.{done_then}

@@ -40,7 +40,16 @@ module _ {K : Type 0} (onto : sink.Ghosts K) (set : Settings) (mended : List ℕ
   abbrev pub ContinuesBroken : Type 0
   ContinuesBroken = Continues × Rose (onto.faults written) (onto.faults written_now)
 
-  -- by how a server ended that took these changes
+  -- by how a server ended that had bound its address
+  abbrev pub EndsServed : Kept → Type 0
+  EndsServed (kept.Served served) = ContinuesWhole
+  EndsServed kept.Broken = ContinuesBroken
+  EndsServed kept.Unbound = ⊥
+  EndsServed kept.Refused = ⊥
+  EndsServed kept.Spent = ⊥
+  EndsServed kept.ReadFault = ⊥
+
+  -- by how one ended that took these changes
   abbrev pub EndsTaken : Kept → Type 0
   EndsTaken (kept.Served served) = ContinuesWhole
   EndsTaken kept.Broken = ContinuesBroken

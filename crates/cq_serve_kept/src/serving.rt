@@ -6,7 +6,7 @@ ghost use Rattle.cq_keeper.specs.Firsts.{IsFirst};
 ghost use Rattle.cq_listen.specs.Seats.{IsIdle};
 ghost use Rattle.cq_log.specs.Mending.{mending};
 ghost use Rattle.cq_shared.specs.SharedPasses.{callers_of, cells_of, settings_of};
-ghost use Rattle.cq_serve_kept.specs.Continued.{EndsKept, EndsTaken};
+ghost use Rattle.cq_serve_kept.specs.Continued.{EndsKept, EndsServed, EndsTaken};
 ghost use Rattle.cq_serve_kept.specs.Reloads.{HasTaken};
 
 use crate::doors::KeptDoors;
@@ -86,7 +86,7 @@ fn serve_logging<
     requires before { accepted pass.seen ≡ N.before }
     requires faults { K.faults sink.old ≡ N.faults }
     ensures ends { IfOk result
-        (EndsTaken K.Sink settings.now [] (accepted pass.seen) sink.old sink.new) }
+        (EndsServed K.Sink settings.now [] (accepted pass.seen) sink.old sink.new) }
 {
     let log: Log<'_, '_, Q, Work<L>, K, N> = Log::new(rt, sink, pass);
     let served = {

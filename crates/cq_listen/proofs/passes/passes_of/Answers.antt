@@ -21,6 +21,7 @@ passes-preserved g c =
     record {
       idle = idle_after hub c.passes.pass c.split_pass-own.new.pass split.same split.of.0 i.idle;
       caller = ap (λ (p : BoardPass). by_of p) split.same ∙ i.caller;
+      seen = ap (λ (p : BoardPass). p.seen) split.same ∙ i.seen;
       room = omega (arith, room, had, most, below);
       number = omega (arith, len, number);
       each = subst (All (IsIdle hub)) (sym c.in_ok-push.ensures.items) (All-push (IsIdle hub) c.passes.passes.items c.split_pass-own.result i.each child);
