@@ -97,25 +97,29 @@ module _ {W R : Type 0} (hub : Shared W R) (set : Settings) (changes : List Chan
       let many : length (accepted p.seen) ≡ length changes = ap length is.accepts in
       omega (arith, at, few, many, all)
 
-  -- all works are done, then the hub was asked, what is done was published, and the floor was raised
-  module _ (p asking publishing q : BoardPass) (is : HasTaken hub p set changes) (done : IsDone hub p) (asked : Asked) (ask : Calls hub p asking (Ask (by_of p) ∷ []) (λ mid. asked ≡ asked_of (state_of hub mid))) where
-    lawful_mid : Lawful (settings_of hub) (callers_of hub) ask.mid
-    lawful_mid = Lawful-prefix (settings_of hub) (callers_of hub) ask.mid (Ask (by_of p) ∷ []) (subst (Lawful (settings_of hub) (callers_of hub)) ask.seen (lawful_seen hub asking ask.of))
+  module _ (p asking : BoardPass) (asked : Asked) (ask : Calls hub p asking (Ask (by_of p) ∷ []) (λ mid. asked ≡ asked_of (state_of hub mid))) where
+    lawful_asked : Lawful (settings_of hub) (callers_of hub) (ask.mid ++ Ask (by_of p) ∷ [])
+    lawful_asked = subst (Lawful (settings_of hub) (callers_of hub)) ask.seen (lawful_seen hub asking ask.of)
 
-    all_asked : length changes ≤ asked.done
-    all_asked =
-        let up = (rises (callers_of hub) ⊥ Never (by_of p) p.seen ask.mid [] ask.others (settings_of hub) lawful_mid).0 in
-        let told : asked.done ≡ ready (state_of hub ask.mid) = ap (λ (a : Asked). a.done) ask.says in
-        let many : length (accepted p.seen) ≡ length changes = ap length is.accepts in
-        omega (arith, up, told, many, done)
+    done_told : asked.done ≡ ready (state_of hub ask.mid)
+    done_told = ap (λ (a : Asked). a.done) ask.says
 
-    -- what was told is still done
+    -- what is done when the hub is asked is done after
     pub done_asked : asked.done ≤ ready (state_of hub asking.seen)
     done_asked =
-        let up = (never_falls (settings_of hub) (callers_of hub) ask.mid (Ask (by_of p) ∷ []) (subst (Lawful (settings_of hub) (callers_of hub)) ask.seen (lawful_seen hub asking ask.of))).0 in
-        let told : asked.done ≡ ready (state_of hub ask.mid) = ap (λ (a : Asked). a.done) ask.says in
+        let up = (never_falls (settings_of hub) (callers_of hub) ask.mid (Ask (by_of p) ∷ []) lawful_asked).0 in
         let same : ready (state_of hub asking.seen) ≡ ready (state_of hub (ask.mid ++ Ask (by_of p) ∷ [])) = ap (λ (g : List Event). ready (state_of hub g)) ask.seen in
-        omega (arith, up, told, same)
+        omega (arith, up, done_told, same)
+
+  -- all works are done, then the hub was asked, what is done was published, and the floor was raised
+  module _ (p asking publishing q : BoardPass) (is : HasTaken hub p set changes) (done : IsDone hub p) (asked : Asked) (ask : Calls hub p asking (Ask (by_of p) ∷ []) (λ mid. asked ≡ asked_of (state_of hub mid))) where
+    all_asked : length changes ≤ asked.done
+    all_asked =
+        let law = Lawful-prefix (settings_of hub) (callers_of hub) ask.mid (Ask (by_of p) ∷ []) (lawful_asked p asking asked ask) in
+        let up = (rises (callers_of hub) ⊥ Never (by_of p) p.seen ask.mid [] ask.others (settings_of hub) law).0 in
+        let told = done_told p asking asked ask in
+        let many : length (accepted p.seen) ≡ length changes = ap length is.accepts in
+        omega (arith, up, told, many, done)
 
     pub low_then : (version : ℕ) → Calls hub asking publishing [] (λ mid. HasPublished (state_of hub mid) asked.done version) → Calls hub publishing q [] (λ mid. (state_of hub mid).floor ≡ greatest_floor (state_of hub mid))
         → HasTaken hub q set changes × IsLow hub q

@@ -12,13 +12,15 @@ use Rattle.cq_history.specs.Lawful.{Lawful}
 use Rattle.cq_history.specs.State.{accepted, maker, own, IsDone, IsUndone}
 use Rattle.cq_history.specs.declared.event.Event.{Event}
 use Rattle.cq_history.specs.declared.event.Event.TheVariants.{Accept, Ask, Took, Back, Done, Publish, Open, Shut, Floor}
+use Rattle.cq_history.proofs.Bounds.{no_view}
 use Rattle.cq_history.proofs.Prefixes.{accepted-append}
 use Rattle.cq_hub.specs.Hubs.{Grows, Never}
 use Rattle.cq_hub.proofs.Following.{done_then}
 use Rattle.cq_hub.proofs.Growing.{KeepsView, grows_event, grows_then}
+use Rattle.cq_serve.specs.Turns.{AtEase}
 use Rattle.cq_serve.proofs.Easing.{eases, took_done}
 use Rattle.cq_shared.specs.Calls.{Calls}
-use Rattle.cq_shared.specs.SharedPasses.{IsPassOf, callers_of, settings_of, state_of}
+use Rattle.cq_shared.specs.SharedPasses.{IsPassOf, OnlyFirstAccepts, callers_of, settings_of, state_of}
 use Rattle.cq_shared.specs.declared.shared.Shared.{Shared}
 use Rattle.cq_serve_kept.specs.Reloads.{HasTaken}
 
@@ -55,6 +57,18 @@ module _ {W R : Type 0} (hub : Shared W R) where
 
   pub waited : (p q : BoardPass) (c : ℕ) (Says : List Event → Type 0) → by_of p ≡ c → Calls hub p q [] Says → Grows ⊥ Never c p.seen q.seen []
   waited p q c Says is call = subst (λ (g : List Event). Grows ⊥ Never c p.seen g []) (sym (call.seen ∙ append-nil call.mid)) (subst (λ (n : ℕ). Grows ⊥ Never n p.seen call.mid []) is call.others)
+
+  -- as a hub is made
+  pub taken_none : (set : Settings) (p : BoardPass) → IsPassOf hub p → by_of p ≡ 0 → OnlyFirstAccepts hub → p.next ≡ 1 → settings_of hub ≡ set → p.seen ≡ [] → HasTaken hub p set []
+  taken_none set p of caller only next same none = record {
+    of = of;
+    caller = caller;
+    only = only;
+    next = next;
+    ease = subst (λ (h : List Event). AtEase (state_of hub h) 0) (sym none) (record { closed = no_view (callers_of hub) 0; hands = λ r taken. let some = taken.0.0.0 in let few = taken.0.0.1 in omega (arith, some, few) });
+    settings = same;
+    accepts = ap accepted none;
+  }
 
   module _ (set : Settings) (changes : List Change) (p : BoardPass) (is : HasTaken hub p set changes) where
     -- the hub may make as many further callers as there are but the first
