@@ -4,6 +4,8 @@ use Rattle.std.specs.Prelude.{◌==◌, slice_index}
 use Rattle.std.specs.List.{AllByRecursion}
 use Rattle.cq_base.specs.declared.change.Change.{Change}
 use Rattle.cq_base.specs.declared.settings.Settings.{Settings}
+use Rattle.cq_board.specs.declared.answers.Finished.{Finished}
+use Rattle.cq_board.specs.declared.answers.Finished.TheVariants as finished
 use Rattle.cq_cells.specs.Passes.{by_of}
 use Rattle.cq_chain.specs.Held.{IsOfFirst}
 use Rattle.cq_chain.specs.Passes.{BoardPass}
@@ -19,6 +21,7 @@ use Rattle.cq_hub.proofs.Following.{done_then}
 use Rattle.cq_hub.proofs.Growing.{KeepsView, grows_event, grows_then}
 use Rattle.cq_serve.specs.Turns.{AtEase}
 use Rattle.cq_serve.proofs.Easing.{eases, took_done}
+use Rattle.cq_shared.specs.Answers.{Does, FindsDone}
 use Rattle.cq_shared.specs.Calls.{Calls}
 use Rattle.cq_shared.specs.SharedPasses.{IsPassOf, OnlyFirstAccepts, callers_of, settings_of, state_of}
 use Rattle.cq_shared.specs.declared.shared.Shared.{Shared}
@@ -142,3 +145,8 @@ module _ {W R : Type 0} (hub : Shared W R) where
           let done : IsDone (state_of hub q.seen) r = subst (λ (g : List Event). IsDone (state_of hub g) r) (sym (call.seen ∙ append-nil call.mid)) call.says in
           still_grown q call.of (call.callers ∙ took.callers) (call.next ∙ took.next) (Took 0 r ∷ []) all refl (tt, tt)
           (λ k undone held. took_done (state_of hub q.seen) 0 r k (holder_in k (own 0 p.seen)) done undone held)
+
+      -- by what the end of the work answers
+      pub taken_finished : (result : Finished) → (result ≡ finished.Done → Does hub m q r) → (result ≡ finished.Already → FindsDone hub m q r) → HasTaken hub q set changes
+      taken_finished finished.Done does late = taken_done (does refl)
+      taken_finished finished.Already does late = taken_late (late refl)
