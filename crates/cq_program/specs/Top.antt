@@ -180,10 +180,12 @@ module _ {S K : Type 0} (from : source.Ghosts S) (onto : sink.Ghosts K) where
   abbrev pub LogsFor : List (List ℕ) → S → S → K → K → Status → Type 0
   LogsFor words read read_now written written_now status = (asked : Listen) → command_of words ≡ Some (command.Serve asked) → Logs asked.settings read read_now written written_now status
 
-  -- the same of a log that is shortened, unless memory is refused
+  -- a log was shortened, unless memory is refused
+  abbrev pub ShortensLog : Settings → S → S → K → K → Status → Type 0
+  ShortensLog set read read_now written written_now status = status ≢ ended.Memory → (by : Shortened) × (status ≡ status_of_shortened by) × Shortens from onto set read read_now written written_now by
+
   abbrev pub ShortensFor : List (List ℕ) → S → S → K → K → Status → Type 0
-  ShortensFor words read read_now written written_now status =
-      (settings : Settings) → command_of words ≡ Some (command.Shorten settings) → status ≢ ended.Memory → (by : Shortened) × (status ≡ status_of_shortened by) × Shortens from onto settings read read_now written written_now by
+  ShortensFor words read read_now written written_now status = (settings : Settings) → command_of words ≡ Some (command.Shorten settings) → ShortensLog settings read read_now written written_now status
 
   -- where the words ask for a command other than `listen` and `serve`
   abbrev pub EndsFor : List (List ℕ) → Status → S → S → K → K → Type 0

@@ -1,11 +1,14 @@
-ghost use Rattle.std.specs.Prelude.{◌≡◌, ◌≤◌};
+ghost use Rattle.std.specs.Prelude.{◌≡◌, ◌≤◌, IfOk};
 ghost use Rattle.cq_base.specs.Settings.{IsInRange};
+ghost use Rattle.cq_serve_kept.specs.Continued.{EndsKept};
+ghost use Rattle.cq_program.specs.Statuses.{Ends, status_of_logged};
+ghost use Rattle.cq_program.specs.Top.{Logs, ShortensLog};
 
-use crate::status::{Exit, Status, status_of, status_of_served};
+use crate::status::{Exit, Status, status_of_served, status_of_shortened};
 use cq_base::{Counters, Memory, Settings};
 use cq_io::{Doors, Gate, Sink, Source};
 use cq_serve_kept::{Kept, serve_kept};
-use cq_shorten::{Shortened, shorten};
+use cq_shorten::shorten;
 use cq_words::Listen;
 use std::alloc::Global;
 use std::marker::Brand;
@@ -38,6 +41,8 @@ fn kept<
     requires in_range { IsInRange asked.settings }
     requires workers { asked.workers ≤ 64 }
     requires sessions { asked.sessions ≤ 64 }
+    ensures log { IfOk result (EndsKept S.Source K.Sink asked.settings
+        source.old source.new sink.old sink.new) }
 {
     let counters: Counters<L> = Counters::new(blank);
     let Listen {
@@ -52,7 +57,9 @@ fn kept<
     )
 }
 
-fn exit_of(kept: Kept) -> Exit {
+fn exit_of(kept: Kept) -> Exit
+    ensures { result.status ≡ status_of_logged kept }
+{
     match kept {
         Kept::Served(served) => Exit {
             status: status_of_served(served),
@@ -102,6 +109,8 @@ pub(crate) fn serve_logged<
     requires in_range { IsInRange asked.settings }
     requires workers { asked.workers ≤ 64 }
     requires sessions { asked.sessions ≤ 64 }
+    ensures logs { Logs S.Source K.Sink asked.settings
+        source.old source.new sink.old sink.new result.status }
 {
     match kept::<Q, Brand, S, K, I, O, D, G>(
         rt,
@@ -129,10 +138,12 @@ pub(crate) fn shortened<S: Source, K: Sink>(
     sink: &mut K,
 ) -> Status
     requires in_range { IsInRange settings.now }
+    ensures ends { Ends S.Source K.Sink result source.old source.new sink.old sink.new }
+    ensures shortens { ShortensLog S.Source K.Sink settings.now
+        source.old source.new sink.old sink.new result }
 {
     match shorten(alloc, settings, source, sink) {
-        Ok(Shortened::Refused) => Status::LineRefused,
-        Ok(Shortened::Ended(end)) => status_of(end),
+        Ok(ended) => status_of_shortened(ended),
         Err(Memory) => Status::Memory,
     }
 }
