@@ -20,7 +20,7 @@ use Rattle.cq_keeper.proofs.Accepting.{all_left, nothing_after, first_none, acce
 use Rattle.cq_shared.specs.Calls.{Calls}
 use Rattle.cq_shared.specs.SharedPasses.{IsPassOf}
 use Rattle.cq_shared.specs.declared.shared.Shared.{Shared}
-use Rattle.cq_shared.proofs.Calling.{ended_after}
+use Rattle.cq_shared.proofs.Calling.{ended_after, grows_seen}
 
 pub begins_left : (xs ys : List Event) → AreOneHistory xs ys → IsPrefix xs (longer xs ys)
 begins_left xs ys (inl p) = left_longer xs ys ys p (prefix_self ys)
@@ -71,6 +71,20 @@ module _ {W R : Type 0} (hub : Shared W R) where
         room = same.room;
         ended = ended_after p q.seen of_p.of.apart owns [] q.seen (λ d other. refl) (sym (append-nil q.seen));
       }
+
+  -- whoever is leveled with another sees more, and nothing more of its own
+  pub sees_passed : (p q : BoardPass) → IsPassOf hub p → IsPassOf hub q → IsSameCaller p q → IsPrefix p.seen q.seen → IsOwn p q.seen → Calls hub p q [] (λ _. Unit {0})
+  sees_passed p q of_p of_q same begins owns = record {
+    mid = q.seen;
+    others = grows_seen p q.seen begins owns;
+    says = tt;
+    seen = sym (append-nil q.seen);
+    of = of_q;
+    callers = same.callers;
+    next = same.next;
+    room = same.room;
+    ended = ended_after p q.seen of_p.of.apart owns [] q.seen (λ d other. refl) (sym (append-nil q.seen));
+  }
 
   module _ (f l : BoardPass) (first : IsFirst hub f) (of_l : IsPassOf hub l) (same : IsSameCaller f l) (begins : IsPrefix f.seen l.seen) (owns : IsOwn f l.seen) where
     -- it is the first caller's pass after it was leveled, and has seen no further acceptance

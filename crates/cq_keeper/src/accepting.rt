@@ -1,6 +1,6 @@
 ghost use Rattle.std.specs.Prelude.{◌≡◌, IfOk, IfErr};
 ghost use Rattle.cq_base.specs.Changes.{IsSoundChange};
-ghost use Rattle.cq_keeper.specs.Firsts.{IsFirst, IsFirstAfter, IsFirstStill, AcceptsByFirst, Refuses};
+ghost use Rattle.cq_keeper.specs.Firsts.{IsFirst, IsFirstAfter, IsFirstStill, AcceptsByFirst, Refuses, SeesMore};
 ghost use Rattle.cq_shared.specs.SharedPasses.{IsPassOf};
 
 use cq_base::Change;
@@ -27,6 +27,7 @@ pub(crate) fn accept_by_first<W: Indexed, R: Wait>(
     ensures first { IfOk result (λ _. IsFirstAfter hub.now first.old first.new change) }
     ensures refused { IfErr result (Refuses hub.now pass.old pass.new change) }
     ensures still { IfErr result (λ _. IsFirstStill hub.now first.old first.new) }
+    ensures sees { SeesMore hub.now pass.old pass.new }
     ensures asked { pass.new.asked ≡ pass.old.asked }
 {
     hub.level(first, pass);
