@@ -25,6 +25,7 @@ use Rattle.cq_hub.specs.Hubs.{Never}
 use Rattle.cq_hub.specs.Says.{HasPublished, IsNoneFree, IsRefusedFor}
 use Rattle.cq_hub.proofs.Growing.{rises}
 use Rattle.cq_log.specs.Logs.{is_accepted}
+use Rattle.cq_log.specs.Takers as takers
 use Rattle.cq_serve.proofs.Easing.{unmade_closed}
 use Rattle.cq_shared.specs.Calls.{Calls}
 use Rattle.cq_shared.specs.SharedPasses.{callers_of, settings_of, state_of}
@@ -32,7 +33,7 @@ use Rattle.cq_shared.specs.declared.shared.Shared.{Shared}
 use Rattle.cq_talk.specs.Causes.{cause, state_at}
 use Rattle.cq_talk.proofs.Causing.{cause_is}
 use Rattle.cq_talk.proofs.Talking.{published_few}
-use Rattle.cq_serve_kept.specs.Reloads.{HasTaken, IsDone, IsLow}
+use Rattle.cq_serve_kept.specs.Reloads.{HasTaken, IsDone, IsLow, TakesAfter}
 use Rattle.cq_serve_kept.proofs.Continuing.{each_accepted}
 use Rattle.cq_serve_kept.proofs.Reloading.{lawful_seen, none_other, taken_accepted, taken_asked, taken_waited}
 
@@ -176,3 +177,11 @@ module _ {W R : Type 0} (hub : Shared W R) (set : Settings) (changes : List Chan
     refused_absent call =
         let absent = absent_anywhere (settings_of hub) changes (state_of hub call.mid).floor (length changes) change (against refused.Absent call (λ is_memory. absurd (cc))) in
         not_then refused.Absent call (λ is_memory. absurd (cc)) (length changes) absent refl
+
+  -- the same as whoever takes changes says it
+  module _ (p q : BoardPass) (change : Change) where
+    pub taken_as : {T : Type 0} (Has : T → Settings → List (List ℕ) → List Change → Type 0) (new : T) (lines : List (List ℕ)) (line : List ℕ)
+        → (HasTaken hub q set (changes ++ change ∷ []) → Has new set (lines ++ line ∷ []) (changes ++ change ∷ [])) → (result : Bool)
+        → TakesAfter hub p q set changes change result → takers.TakesAfter Has new set lines changes line change result
+    taken_as Has new lines line same true (yes, has) = (yes, same has)
+    taken_as Has new lines line same false no = no
