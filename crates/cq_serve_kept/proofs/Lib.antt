@@ -3,3 +3,4 @@ pub mod Ending
 pub mod Reloading
 pub mod Lowering
 pub mod Mended
+pub mod Took

@@ -1,0 +1,30 @@
+use Rattle.std.proofs.Common.{refl, ◌∙◌, sym}
+use Rattle.std.proofs.lemmas.Result.{IfOk-weaker}
+use Rattle.cq_serve_kept.proofs.Reloading.{taken_none}
+use Rattle.cq_serve_kept.proofs.Took.{ends_kept}
+use Rattle.cq_serve_kept.proofs.serving.serve_kept.Goals as goal
+
+pub take_log-requires : goal.take_log-requires
+take_log-requires g c =
+    let hub = c.in_ok-made.made.0 in
+    let pass = c.in_ok-made.made.1 in
+    let made = c.in_ok-made.ensures in
+    let set = c.args.settings.now in
+    record {
+      ready = record { in_range = c.requires.in_range; settings = made.settings ∙ sym c.plain-keyer.ensures; of = made.stands.is };
+      nothing = taken_none hub set pass made.stands.is made.stands.caller made.accepts made.room.0 made.settings made.stands.seen;
+    }
+
+pub returns-in-Failed-clause-log : goal.returns-in-Failed-clause-log
+returns-in-Failed-clause-log g c = (refl, rw c.in-Failed.is at c.in_ok-taken.ensures.cause)
+
+pub serve_taken-requires : goal.serve_taken-requires
+serve_taken-requires g c =
+    let all = rw c.in-All.is at c.in_ok-taken.ensures.takes in
+    record { taken = (all.has.changes, all.has.has) }
+
+pub returns-in-All-clause-log : goal.returns-in-All-clause-log
+returns-in-All-clause-log g c =
+    let all = rw c.in-All.is at c.in_ok-taken.ensures.takes in
+    IfOk-weaker c.serve_taken.result _ _
+    (λ by ends. ends_kept _ g.S.Source g.K.Sink c.args.settings.now c.args.source.now c.take_log.new.source c.args.sink.now c.serve_taken.new.sink c.take_log.new.taker c.in-All.unclosed c.in-All.torn all by (ends all.has.changes all.has.has)) c.serve_taken.ensures.ends
