@@ -1,10 +1,11 @@
 -- What the first pass of a hub knows that let go of all that it can, and why a change is not taken then.
-use Rattle.std.proofs.Common.{◌≡◌, ◌≢◌, ◌⊎◌, ℕ, zero, suc, ◌+◌, ◌-◌, ◌<◌, ◌≤◌, Bool, true, false, not, ◌&&◌, List, [], ◌∷◌, ◌++◌, length, fold, get_or, Option, Some, None, refl, sym, ap, ◌∙◌, subst, ⊎_elim, arith, append-nil, true≢false}
+use Rattle.std.proofs.Common.{◌≡◌, ◌≢◌, ◌⊎◌, ℕ, zero, suc, ◌+◌, ◌-◌, ◌<◌, ◌≤◌, Bool, true, false, not, ◌&&◌, List, [], ◌∷◌, ◌++◌, length, fold, get_or, Option, Some, None, Result, refl, sym, ap, ◌∙◌, subst, ⊎_elim, arith, append-nil, true≢false}
 use Rattle.std.specs.Prelude.{is_none, Contains}
 use Rattle.std.proofs.lemmas.List.Sums.{fails_before_first, prefix_len-le-length}
 use Rattle.cq_base.proofs.Lists.{Contains-nil}
 use Rattle.cq_base.specs.declared.change.Change.{Change}
 use Rattle.cq_base.specs.declared.change.Change.TheVariants.{Put, Drop, Gate}
+use Rattle.cq_base.specs.declared.memory.Memory.{Memory}
 use Rattle.cq_base.specs.declared.settings.Settings.{Settings}
 use Rattle.cq_board.specs.Answers.{asked_of, cause_among, greatest_floor, lower}
 use Rattle.cq_board.specs.declared.answers.Asked.{Asked}
@@ -22,11 +23,12 @@ use Rattle.cq_history.proofs.Falling.{never_falls}
 use Rattle.cq_history.proofs.Holding.{taken_since}
 use Rattle.cq_history.proofs.States.{Lawful-prefix}
 use Rattle.cq_hub.specs.Hubs.{Never}
-use Rattle.cq_hub.specs.Says.{HasPublished, IsNoneFree, IsRefusedFor}
+use Rattle.cq_hub.specs.Says.{HasGreatestFloor, HasPublished, IsNoneFree, IsRefusedFor}
 use Rattle.cq_hub.proofs.Growing.{rises}
 use Rattle.cq_log.specs.Logs.{is_accepted}
 use Rattle.cq_log.specs.Takers as takers
 use Rattle.cq_serve.proofs.Easing.{unmade_closed}
+use Rattle.cq_shared.specs.Answers.{Sweeps}
 use Rattle.cq_shared.specs.Calls.{Calls}
 use Rattle.cq_shared.specs.SharedPasses.{callers_of, settings_of, state_of}
 use Rattle.cq_shared.specs.declared.shared.Shared.{Shared}
@@ -122,11 +124,11 @@ module _ {W R : Type 0} (hub : Shared W R) (set : Settings) (changes : List Chan
         let many : length (accepted p.seen) ≡ length changes = ap length is.accepts in
         omega (arith, up, told, many, done)
 
-    pub low_then : (version : ℕ) → Calls hub asking publishing [] (λ mid. HasPublished (state_of hub mid) asked.done version) → Calls hub publishing q [] (λ mid. (state_of hub mid).floor ≡ greatest_floor (state_of hub mid))
+    pub low_then : (version : ℕ) → Calls hub asking publishing [] (λ mid. HasPublished (state_of hub mid) asked.done version) → (result : Result ℕ Memory) → Sweeps hub publishing q result
         → HasTaken hub q set changes × IsLow hub q
-    low_then version advance sweep =
+    low_then version advance result sweep =
         let then = taken_waited hub set changes asking (taken_asked hub set changes p is asking (λ mid. asked ≡ asked_of (state_of hub mid)) ask) publishing (λ mid. HasPublished (state_of hub mid) asked.done version) advance in
-        let last = taken_waited hub set changes publishing then q (λ mid. (state_of hub mid).floor ≡ greatest_floor (state_of hub mid)) sweep in
+        let last = taken_waited hub set changes publishing then q (λ mid. HasGreatestFloor (state_of hub mid) result) sweep in
         let there : publishing.seen ≡ advance.mid = advance.seen ∙ append-nil advance.mid in
         let here : q.seen ≡ sweep.mid = sweep.seen ∙ append-nil sweep.mid in
         let law = subst (Lawful (settings_of hub) (callers_of hub)) here (lawful_seen hub q sweep.of) in
@@ -135,7 +137,7 @@ module _ {W R : Type 0} (hub : Shared W R) (set : Settings) (changes : List Chan
         let after : (state_of hub q.seen).published ≡ (state_of hub sweep.mid).published = ap (λ (g : List Event). (state_of hub g).published) here in
         let version_is = advance.says.0 in
         let least = advance.says.1 in
-        let floor = subst (λ (g : List Event). (state_of hub g).floor ≡ greatest_floor (state_of hub g)) (sym here) sweep.says in
+        let floor = subst (λ (g : List Event). (state_of hub g).floor ≡ greatest_floor (state_of hub g)) (sym here) sweep.says.0 in
         (last, floor_low q last floor (omega (arith, all_asked, up, before, after, version_is, least)))
 
   -- ---- what is taken, and what is not
