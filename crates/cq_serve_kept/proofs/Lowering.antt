@@ -73,7 +73,7 @@ module _ {W R : Type 0} (hub : Shared W R) (set : Settings) (changes : List Chan
       (taken_since (settings_of hub) (callers_of hub) [] p.seen (suc c) r (lawful_seen hub p is.of) taken)
 
   -- where no change is neither done nor taken, all are done
-  pub all_done : (p : BoardPass) → HasTaken hub p set changes → IsNoneFree (state_of hub p.seen) → IsDone hub p
+  all_done : (p : BoardPass) → HasTaken hub p set changes → IsNoneFree (state_of hub p.seen) → IsDone hub p
   all_done p is none =
       let s = state_of hub p.seen in
       let each : AreDoneUpTo s (length s.slots) = λ r some few. ((some, few), go r some few (is_done (slot_of s r)) (slot_of s r).holder refl refl (fails_before_first is_free s.slots (r - 1) no_slot (omega (arith, none, some, few)))) in
@@ -86,6 +86,12 @@ module _ {W R : Type 0} (hub : Shared W R) (set : Settings) (changes : List Chan
       go r some few true h done held fails = done
       go r some few false None done held fails = absurd (true≢false fails)
       go r some few false (Some c) done held fails = absurd (nobody_holds p is r c (((some, few), done), held))
+
+  -- so when there is nothing to take
+  pub done_taken : (p q : BoardPass) → HasTaken hub p set changes → Calls hub p q [] (λ mid. IsNoneFree (state_of hub mid)) → HasTaken hub q set changes × IsDone hub q
+  done_taken p q is call =
+      let still = taken_waited hub set changes p is q (λ mid. IsNoneFree (state_of hub mid)) call in
+      (still, all_done q still (subst (λ (g : List Event). IsNoneFree (state_of hub g)) (sym (call.seen ∙ append-nil call.mid)) call.says))
 
   -- no view is open, so the floor that is as high as it may be is at the published version
   all_closed : (p : BoardPass) → HasTaken hub p set changes → (c : ℕ) → view_of (state_of hub p.seen) c ≡ None

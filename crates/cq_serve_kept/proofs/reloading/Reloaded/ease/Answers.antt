@@ -15,7 +15,7 @@ returns-clause-low g c = λ set changes is.
     let hub = c.args.self.now.hub.now in
     let (still, done) = c.in_ok-make_works.ensures.done set changes is in
     low_then hub set changes c.make_works.new.self.pass c.ask-asked.new.pass c.advance-_version.new.pass c.sweep-_floor.new.pass still done c.ask-asked.result c.ask-asked.ensures.asks c.in_ok-_version._version c.in_ok-_version.ensures.published
-    c.sweep-_floor.result c.sweep-_floor.ensures.sweeps
+    c.sweep-_floor.result c.sweep-_floor.ensures.swept
 
 pub returns-clause-ready : goal.returns-clause-ready
-returns-clause-ready g c = record { in_range = c.requires.ready.in_range; settings = c.requires.ready.settings; of = c.sweep-_floor.ensures.sweeps.of }
+returns-clause-ready g c = record { in_range = c.requires.ready.in_range; settings = c.requires.ready.settings; of = c.sweep-_floor.ensures.swept.of }
