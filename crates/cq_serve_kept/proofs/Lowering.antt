@@ -187,9 +187,9 @@ module _ {W R : Type 0} (hub : Shared W R) (set : Settings) (changes : List Chan
         not_then refused.Absent call (λ is_memory. absurd (cc)) (length changes) absent refl
 
   -- the same as whoever takes changes says it
-  module _ (p q : BoardPass) (change : Change) where
+  module _ (q : BoardPass) (change : Change) where
     pub taken_as : {T : Type 0} (Has : T → Settings → List (List ℕ) → List Change → Type 0) (new : T) (lines : List (List ℕ)) (line : List ℕ)
         → (HasTaken hub q set (changes ++ change ∷ []) → Has new set (lines ++ line ∷ []) (changes ++ change ∷ [])) → (result : Bool)
-        → TakesAfter hub p q set changes change result → takers.TakesAfter Has new set lines changes line change result
+        → TakesAfter hub q set changes change result → takers.TakesAfter Has new set lines changes line change result
     taken_as Has new lines line same true (yes, has) = (yes, same has)
     taken_as Has new lines line same false no = no

@@ -37,6 +37,11 @@ module _ {W R : Type 0} (hub : Shared W R) where
   abbrev pub IsLow : BoardPass → Type 0
   IsLow p = (state_of hub p.seen).floor ≡ length (accepted p.seen)
 
+  -- it has taken the change too, which is accepted after those before it; or it is not
+  abbrev pub TakesAfter : BoardPass → Settings → List Change → Change → Bool → Type 0
+  TakesAfter q set changes change true = (is_accepted set changes change ≡ true) × HasTaken q set (changes ++ change ∷ [])
+  TakesAfter q set changes change false = is_accepted set changes change ≡ false
+
   module _ (p q : BoardPass) where
     -- what it had taken it still has
     abbrev pub StaysTaken : Type 0
@@ -50,14 +55,10 @@ module _ {W R : Type 0} (hub : Shared W R) where
     abbrev pub StaysLow : Type 0
     StaysLow = (set : Settings) (changes : List Change) → HasTaken p set changes → HasTaken q set changes × IsLow q
 
-    -- it has taken the change too, which is accepted after those before it; or it is not
-    abbrev pub TakesAfter : Settings → List Change → Change → Bool → Type 0
-    TakesAfter set changes change true = (is_accepted set changes change ≡ true) × HasTaken q set (changes ++ change ∷ [])
-    TakesAfter set changes change false = is_accepted set changes change ≡ false
-
+    -- it has taken the change or not, after whatever it had taken
     abbrev pub TakesChange : Change → Bool → Type 0
-    TakesChange change result = (set : Settings) (changes : List Change) → HasTaken p set changes → TakesAfter set changes change result
+    TakesChange change result = (set : Settings) (changes : List Change) → HasTaken p set changes → TakesAfter q set changes change result
 
     -- the same where the floor was at the last change
     abbrev pub TakesWhereLow : Change → Bool → Type 0
-    TakesWhereLow change result = (set : Settings) (changes : List Change) → HasTaken p set changes → IsLow p → TakesAfter set changes change result
+    TakesWhereLow change result = (set : Settings) (changes : List Change) → HasTaken p set changes → IsLow p → TakesAfter q set changes change result

@@ -34,7 +34,7 @@ returns-in-Err-FullChanges-clause-takes g c =
     let m = c.accept.new.pass in
     let q = c.accept_again-in-Err-FullChanges.new.self.pass in
     IfOk-weaker c.accept_again-in-Err-FullChanges.result _ _
-    (λ result takes lines changes is. taken_as hub set changes m q c.args.change _ _ lines c.args.line.now (λ has. has) result (takes set changes (taken_waited hub set changes c.args.self.now.pass is m _ c.in-Err-FullChanges.ensures.refused)))
+    (λ result takes lines changes is. taken_as hub set changes q c.args.change _ _ lines c.args.line.now (λ has. has) result (takes set changes (taken_waited hub set changes c.args.self.now.pass is m _ c.in-Err-FullChanges.ensures.refused)))
     c.accept_again-in-Err-FullChanges.ensures.takes
 
 pub accept_again-in-Err-FullText-requires-clause-ready : goal.accept_again-in-Err-FullText-requires-clause-ready
@@ -47,5 +47,5 @@ returns-in-Err-FullText-clause-takes g c =
     let m = c.accept.new.pass in
     let q = c.accept_again-in-Err-FullText.new.self.pass in
     IfOk-weaker c.accept_again-in-Err-FullText.result _ _
-    (λ result takes lines changes is. taken_as hub set changes m q c.args.change _ _ lines c.args.line.now (λ has. has) result (takes set changes (taken_waited hub set changes c.args.self.now.pass is m _ c.in-Err-FullText.ensures.refused)))
+    (λ result takes lines changes is. taken_as hub set changes q c.args.change _ _ lines c.args.line.now (λ has. has) result (takes set changes (taken_waited hub set changes c.args.self.now.pass is m _ c.in-Err-FullText.ensures.refused)))
     c.accept_again-in-Err-FullText.ensures.takes
