@@ -4,3 +4,4 @@ pub mod Reloading
 pub mod Lowering
 pub mod Mended
 pub mod Took
+pub mod Refusing
