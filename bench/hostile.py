@@ -546,7 +546,8 @@ def counted(options: Iterable[str], lines: Iterable[bytes]) -> tuple[int, int]:
     with tempfile.TemporaryFile() as source:
         source.write(b"".join(lines))
         source.seek(0)
-        command = ["valgrind", "--tool=callgrind", "--callgrind-out-file=/dev/null", *SERVER, *options]
+        program = PROGRAM if "CQD" in os.environ else str(ROOT / "out" / "cqd")  # ./cqd is a script that runs it
+        command = ["valgrind", "--tool=callgrind", "--callgrind-out-file=/dev/null", program, *SERVER[1:], *options]
         ran = subprocess.run(command, stdin=source, capture_output=True)
     found = re.search(rb"Collected : (\d+)", ran.stderr)
     if ran.returncode or not found:

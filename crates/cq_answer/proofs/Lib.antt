@@ -6,5 +6,4 @@ pub mod Inside
 pub mod Chosen
 pub mod Rows
 pub mod Listable
-pub mod Told
 pub mod Asked

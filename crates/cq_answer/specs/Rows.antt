@@ -2,6 +2,7 @@
 use Rattle.std.specs.Prelude.{ℕ, ◌<◌, ◌^◌, ◌==◌, max, Bool, if◌then◌else◌, Option, List, [], ◌∷◌, length, map, filter, slice_index_or, All}
 use Rattle.std.specs.List.{AllByRecursion, position, range_with_len}
 use Rattle.cq_base.specs.Lines.{lines_of}
+use Rattle.cq_base.specs.Measures.{no_measures}
 use Rattle.cq_base.specs.declared.group.Group.{Group}
 use Rattle.cq_base.specs.declared.group.Place.{Place}
 use Rattle.cq_base.specs.declared.measures.FileCounts.{FileCounts}
@@ -49,9 +50,6 @@ place_row facts n p = record { path = slice_index_or facts.paths p.file []; at =
 
 abbrev pub group_row : Facts → Group → GroupRow
 group_row facts g = record { tokens = g.tokens; places = map (place_row facts g.tokens) g.places }
-
-abbrev pub no_measures : Measures
-no_measures = record { lines = 0; ncloc = 0; files = 0; complexity = 0; dup_lines = 0; dup_blocks = 0; dup_files = 0; density = 0 }
 
 -- the positions of the chosen files, ascending
 abbrev pub chosen_of : Facts → (ℕ → Bool) → List ℕ

@@ -23,4 +23,4 @@ pub use answering::answer;
 pub use bounds::{paths_are_named, versions_are_bounded};
 pub use laws::reply_by_changes_is_on_its_files;
 pub use part::Part;
-pub use refusing::{cause_told, refused_as};
+pub use refusing::cause_told;

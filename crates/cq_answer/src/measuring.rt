@@ -19,17 +19,6 @@ use std::sync::Arc;
 use std::sync::ledger::Ledger;
 use std::thread::Threads;
 
-const NO_MEASURES: Measures = Measures {
-    lines: 0,
-    ncloc: 0,
-    files: 0,
-    complexity: 0,
-    dup_lines: 0,
-    dup_blocks: 0,
-    dup_files: 0,
-    density: 0,
-};
-
 // What is counted of the files, and where their tokens are, which are lent.
 fn lines_of<'a, L: Ledger>(
     alloc: Global,
@@ -136,7 +125,7 @@ fn measures_of_file<L: Ledger>(
     if is_chosen {
         measures_at(alloc, files, file, groups)
     } else {
-        Ok(NO_MEASURES)
+        Ok(Measures::none())
     }
 }
 
@@ -158,6 +147,6 @@ pub(crate) fn measures_of<R: Threads + Sync, L: Ledger>(
     match part {
         Part::Whole => measures_of_whole(rt, alloc, files, query, groups),
         Part::File(file) => measures_of_file(alloc, files, query, file, groups),
-        Part::Alone(_) | Part::Nothing => Ok(NO_MEASURES),
+        Part::Alone(_) | Part::Nothing => Ok(Measures::none()),
     }
 }

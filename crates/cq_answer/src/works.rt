@@ -1,4 +1,3 @@
-ghost use Rattle.std.specs.Prelude.{◌≡◌};
 ghost use Rattle.cq_answer.specs.Works.{norms_in, keys_in, numbers_in};
 ghost use Rattle.cq_answer.specs.Lent.{as_many};
 

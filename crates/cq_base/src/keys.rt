@@ -1,6 +1,5 @@
 ghost use Rattle.std.specs.Prelude.{◌≡◌, ◌^◌, ◌<◌, length, vec_len};
 
-use std::alloc::Global;
 use std::marker::Model;
 
 /// The keys of a file's windows, in the order of the windows, fewer than 2^32.

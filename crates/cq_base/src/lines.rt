@@ -30,18 +30,6 @@ pub fn line_of(text: &Text, at: u32) -> u32
     1 + line_feeds(before) as u32
 }
 
-/// The line of byte `to`, counted from byte `from`, which is on `line`. It walks the bytes between the two.
-pub fn line_further(text: &Text, line: u32, from: u32, to: u32) -> u32
-    requires short { length text.now ≤ 1048576 }
-    requires known { line ≡ line_at text.now from }
-    requires ordered { from ≤ to }
-    requires within { to ≤ length text.now }
-    ensures { result ≡ line_at text.now to }
-{
-    let between = &text.as_bytes()[from as usize..to as usize];
-    line + line_feeds(between) as u32
-}
-
 /// How many lines the text has. It walks the text.
 pub fn line_count(text: &Text) -> u32
     requires { length text.now ≤ 1048576 }

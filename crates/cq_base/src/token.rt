@@ -1,3 +1,6 @@
+ghost use Rattle.std.specs.Prelude.{◌≡◌};
+ghost use Rattle.cq_base.specs.Tables.{class_code, classes, class_coded};
+
 use crate::Text;
 
 /// What kind of token it is.
@@ -11,6 +14,39 @@ pub enum Class {
     Literal,
     /// Punctuation.
     Punct,
+}
+
+const CLASSES: [Class; 4] = [Class::Ident, Class::Word, Class::Literal, Class::Punct];
+
+impl Class {
+    /// All classes.
+    pub fn all() -> &'static [Class]
+        ensures { result.now ≡ classes }
+    {
+        &CLASSES
+    }
+
+    /// Its number in keys and in token files.
+    pub fn code(&self) -> u8
+        ensures { result ≡ class_code self.now }
+    {
+        match self {
+            Class::Ident => 0,
+            Class::Word => 1,
+            Class::Literal => 2,
+            Class::Punct => 3,
+        }
+    }
+
+    /// The class with this code.
+    pub fn of_code(code: u8) -> Option<Class>
+        ensures { result ≡ class_coded code }
+    {
+        Class::all()
+            .iter()
+            .find(|class| class.code() == code)
+            .copied()
+    }
 }
 
 /// Where a token is: `start` and `len` in bytes from the start of its text, lines from 1. Its last line is that of

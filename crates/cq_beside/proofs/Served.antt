@@ -1,5 +1,5 @@
 -- What was served: in the words of the session's pass, and behind the session.
-use Rattle.std.proofs.Common.{◌≡◌, ℕ, List, Option, subst, subst₂, sym}
+use Rattle.std.proofs.Common.{◌≡◌, ℕ, List, subst, subst₂, sym}
 use Rattle.cq_base.specs.declared.settings.Settings.{Settings}
 use Rattle.cq_history.specs.declared.event.Event.{Event}
 use Rattle.cq_io.specs.declared.sink.Sink as sink

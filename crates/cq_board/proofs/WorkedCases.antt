@@ -1,13 +1,12 @@
 -- A worked case of what a board answers and allows, with wrong answers that the definitions refuse.
-use Rattle.std.proofs.Common.{◌≡◌, ◌≤◌, ℕ, true, false, true≢false, [], ◌∷◌, Option, None, Some, ap, arith}
+use Rattle.std.proofs.Common.{◌≡◌, ◌≤◌, true, false, true≢false, [], ◌∷◌, None, Some, arith}
 use Rattle.cq_base.specs.declared.lang.Lang.TheVariants.{Any}
 use Rattle.cq_base.specs.declared.change.Change.TheVariants.{Put}
 use Rattle.cq_base.specs.declared.settings.Settings.{Settings}
 use Rattle.cq_history.specs.declared.event.Event.TheVariants as event
 use Rattle.cq_history.specs.Lawful.{Permits}
-use Rattle.cq_history.specs.State.{State, IsUndone}
-use Rattle.cq_board.specs.declared.answers.Asked.{Asked}
-use Rattle.cq_board.specs.declared.answers.Refused.TheVariants.{Absent, FullChanges}
+use Rattle.cq_history.specs.State.{State}
+use Rattle.cq_board.specs.declared.answers.Refused.TheVariants.{FullChanges}
 use Rattle.cq_board.specs.Answers.{asked_of, cause_among, greatest_floor, IsDonePut}
 
 -- Two puts are accepted. The first is done, and caller 0 has the second. Version 1 is published; caller 0 views version 0, and

@@ -11,7 +11,7 @@ use Rattle.cq_base.specs.declared.settings.Settings.{Settings}
 use Rattle.cq_base.specs.Changes.{IsSoundChange}
 use Rattle.cq_history.specs.declared.event.Event.{Event}
 use Rattle.cq_history.specs.State as history
-use Rattle.cq_history.specs.State.{State, state, accepted, changes_in, maker, own, ready, is_done, view_of}
+use Rattle.cq_history.specs.State.{state, accepted, changes_in, maker, own, ready, is_done, view_of}
 use Rattle.cq_history.specs.Lawful.{Lawful, IsBelow}
 use Rattle.cq_history.specs.Lasts.{view_in}
 use Rattle.cq_history.specs.Core.{IsReached}
@@ -32,7 +32,7 @@ use Rattle.cq_cells.specs.declared.view.Hand.TheVariants.{Free, Has}
 use Rattle.cq_cells.specs.Callers as callers
 use Rattle.cq_cells.specs.Callers.{Each, Differ, OwnSame, NoneFrom, MayCall, longer}
 use Rattle.cq_cells.specs.Passes as passes
-use Rattle.cq_cells.specs.Passes.{IsFree, IsSameCaller, HasBoard, HasShard, HasReached, by_of, least}
+use Rattle.cq_cells.specs.Passes.{IsFree, IsSameCaller, HasBoard, HasShard, HasReached, by_of}
 use Rattle.cq_cells.proofs.Fronts.{longer_case}
 use Rattle.cq_chain.specs.declared.about.About.{About}
 use Rattle.cq_chain.specs.Held.{IsOfFirst, AcceptedByFirst, IsLawful, IsBoard, IsShardOf, IsShardAt, state_in, asks}

@@ -1,4 +1,4 @@
-ghost use Rattle.std.specs.Prelude.{◌≡◌, ℕ, ◌+◌, ◌^◌, ◌<◌, ◌≤◌, max, List, [], ◌++◌, length, Option, IfOk, IfSome, option_to_list};
+ghost use Rattle.std.specs.Prelude.{◌≡◌, ℕ, ◌+◌, ◌^◌, ◌<◌, ◌≤◌, max, [], ◌++◌, length, Option, IfOk, IfSome, option_to_list};
 ghost use mathlib.Core.List.{IsPrefix};
 ghost use Rattle.cq_history.specs.declared.event.Event.{Event as Happened};
 ghost use Rattle.cq_history.specs.State.{view_of};
@@ -17,7 +17,7 @@ use cq_board::Board;
 use cq_history::Event;
 use cq_shard::{Indexed, Shard};
 use std::alloc::Global;
-use std::marker::{Brand, Model};
+use std::marker::Model;
 use std::sync::Wait;
 
 /// A caller's right to step on the cells of a board and its shards.

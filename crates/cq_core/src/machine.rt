@@ -1,11 +1,9 @@
-ghost use Rattle.std.specs.Prelude.{◌≡◌, ◌+◌, ◌<◌, ◌≤◌, ◌↔◌, ℕ, [], IfOk, OnOk, OnErr, IfSome, IsSome, IsTrue, All, MatchOption, length, map, replicate, option_map, Some, None};
-ghost use Rattle.std.specs.Prelude.{List};
+ghost use Rattle.std.specs.Prelude.{◌≡◌, ◌+◌, ◌<◌, ◌≤◌, ◌↔◌, IfOk, OnErr, IfSome, IsSome, IsTrue, All, length, replicate, option_map, Some, None};
 ghost use Rattle.cq_base.specs.declared.settings.Settings.{Settings};
 ghost use Rattle.cq_base.specs.declared.change.Change.{Change};
-ghost use Rattle.cq_history.specs.Changes.{change_at};
 ghost use Rattle.cq_shard.specs.Shard.{HasWindow};
 ghost use Rattle.cq_history.specs.declared.event.Event.TheVariants as event;
-ghost use Rattle.cq_history.specs.State.{view_of, first_free, ready, IsUndone};
+ghost use Rattle.cq_history.specs.State.{view_of, ready, IsUndone};
 ghost use Rattle.cq_base.specs.Changes.{IsSoundChange};
 ghost use Rattle.cq_board.specs.Calls.{IsJobAt, ShowsFewConditions};
 ghost use Rattle.cq_board.specs.Stands.{Adds};

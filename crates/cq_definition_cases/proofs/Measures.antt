@@ -4,7 +4,7 @@ use Rattle.std.specs.Prelude.{◌≡◌, ℕ, true, List, [], ◌∷◌, codes}
 use Rattle.std.proofs.Common.{arith}
 use Rattle.cq_base.specs.declared.change.Compare.TheVariants as compare
 use Rattle.cq_base.specs.declared.change.Condition.{Condition}
-use Rattle.cq_base.specs.declared.change.Metric.TheVariants as metric
+use Rattle.cq_base.specs.declared.measures.Metric.TheVariants as metric
 use Rattle.cq_base.specs.declared.group.Group.{Group}
 use Rattle.cq_base.specs.declared.lang.Lang.TheVariants as lang
 use Rattle.cq_base.specs.declared.measures.FileCounts.{FileCounts}

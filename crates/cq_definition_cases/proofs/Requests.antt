@@ -3,9 +3,10 @@ use Rattle.std.specs.Prelude.{◌≡◌, ℕ, true, Some, None, Ok, Err, List, [
 use Rattle.std.proofs.Common.{arith}
 use Rattle.serde_json.specs.Data.{Data, Members, unsigned, number, string, array, object, no_items, member, no_members}
 use Rattle.cq_base.specs.declared.lang.Lang.TheVariants as lang
+use Rattle.cq_base.specs.Tables.{lang_named}
 use Rattle.cq_request.specs.Conditions.{are_conditions}
-use Rattle.cq_request.specs.Reading.{lang_named, min_or, scope_passes, value_refused, value_says}
-use Rattle.cq_request.specs.declared.request.Refusal.TheVariants as refusal
+use Rattle.cq_request.specs.Reading.{min_or, scope_passes, value_refused, value_says}
+use Rattle.cq_base.specs.declared.refusal.Refusal.TheVariants as refusal
 use Rattle.cq_request.specs.declared.request.Request.TheVariants as request
 
 -- a member whose value is a text, or a number

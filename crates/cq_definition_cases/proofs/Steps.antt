@@ -2,7 +2,7 @@
 use Rattle.std.specs.Prelude.{◌≡◌, ◌≤◌, ℕ, Bool, false, List, [], ◌∷◌, All, Option, Some, None, Ok, codes}
 use Rattle.std.proofs.Common.{arith, ap, refl, sym, ◌∙◌, subst, inl, inr}
 use Rattle.std.proofs.lemmas.List.Elements.{All-contains, Contains-get_or}
-use Rattle.serde_json.specs.Data.{Data, Members, unsigned, number, string, object, member, no_members}
+use Rattle.serde_json.specs.Data.{Members, unsigned, number, string, object, member, no_members}
 use Rattle.cq_answer.specs.Reply.{IsReply, chosen_read, part_read, reply_of}
 use Rattle.cq_answer.specs.Rows.{Facts, facts_read}
 use Rattle.cq_answer.specs.declared.part.Part.{Part}

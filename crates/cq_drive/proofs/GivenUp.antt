@@ -9,7 +9,7 @@ use Rattle.cq_drive.specs.Outcomes.{line_of, NeedsMemory}
 use Rattle.cq_drive.specs.declared.outcome.ScriptOutcome.{ScriptOutcome}
 use Rattle.cq_drive.specs.declared.outcome.ScriptOutcome.TheVariants as outcome
 use Rattle.cq_reply.specs.declared.reply.Reply.TheVariants as reply
-use Rattle.cq_request.specs.declared.request.Refusal.{Refusal}
+use Rattle.cq_base.specs.declared.refusal.Refusal.{Refusal}
 use Rattle.cq_drive.specs.Reading.{step_read}
 use Rattle.cq_drive.specs.declared.step.ScriptStep.{ScriptStep}
 use Rattle.cq_drive.specs.declared.step.ScriptStep.TheVariants as script

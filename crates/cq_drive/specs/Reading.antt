@@ -5,8 +5,8 @@ use Rattle.serde_json.specs.Find.{get, as_object}
 use Rattle.cq_base.specs.declared.settings.Settings.{Settings}
 use Rattle.cq_request.specs.declared.request.Request.{Request}
 use Rattle.cq_request.specs.declared.request.Request.TheVariants as request
-use Rattle.cq_request.specs.declared.request.Refusal.{Refusal}
-use Rattle.cq_request.specs.declared.request.Refusal.TheVariants as refusal
+use Rattle.cq_base.specs.declared.refusal.Refusal.{Refusal}
+use Rattle.cq_base.specs.declared.refusal.Refusal.TheVariants as refusal
 use Rattle.cq_request.specs.Members.{number_at}
 use Rattle.cq_request.specs.Spelled.{spelled}
 use Rattle.cq_request.specs.Reading.{value_says, of_spelled}

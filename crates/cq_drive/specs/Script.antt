@@ -1,7 +1,7 @@
 -- What the lines of a script come to: by the history of a core, with what each shard has applied of it, and by nothing
 -- that a server keeps.
 use Rattle.std.specs.Prelude.{◌≡◌, ◌⊎◌, ℕ, ◌+◌, ◌<◌, ◌≤◌, List, [], ◌∷◌, length, All, Some, None, IsNone, IsSome, Result, Ok, Err, slice_index}
-use Rattle.cq_answer.specs.Refusals.{refused_as, cause_told}
+use Rattle.cq_answer.specs.Refusals.{cause_told}
 use Rattle.cq_answer.specs.Reply.{IsReply}
 use Rattle.cq_base.specs.declared.entry.Entry.{Entry}
 use Rattle.cq_base.specs.declared.settings.Settings.{Settings}
@@ -18,7 +18,7 @@ use Rattle.cq_drive.specs.declared.outcome.ScriptOutcome.{ScriptOutcome}
 use Rattle.cq_drive.specs.declared.outcome.ScriptOutcome.TheVariants as outcome
 use Rattle.cq_reply.specs.declared.reply.Reply.{Reply}
 use Rattle.cq_reply.specs.declared.reply.Reply.TheVariants as reply
-use Rattle.cq_request.specs.declared.request.Refusal.{Refusal}
+use Rattle.cq_base.specs.declared.refusal.Refusal.{Refusal}
 use Rattle.cq_drive.specs.Reading.{step_read}
 use Rattle.cq_drive.specs.declared.step.ScriptStep.{ScriptStep}
 use Rattle.cq_drive.specs.declared.step.ScriptStep.TheVariants.{Accept, Ask, Took, Back, Done, Apply, Publish, Open, Read, Reply as Answer, Shut, Floor, Sweep}
@@ -95,7 +95,7 @@ StepComesTo set k (Sweep shard) o later = Steps k (Sweeps shard (now k).floor) o
 -- a step is taken as it is told; why a line is refused is told, and nothing changes
 abbrev pub SaidComesTo : Settings → Core → Result ScriptStep Refusal → ScriptOutcome → Core → Type 0
 SaidComesTo set k (Ok step) o later = StepComesTo set k step o later
-SaidComesTo set k (Err why) o later = Stays k (outcome.Reply (refused_as why)) o later
+SaidComesTo set k (Err why) o later = Stays k (outcome.Reply (reply.Refused why)) o later
 
 -- a line that is not too long is read; where memory was refused, that is told, and nothing changes
 abbrev pub ReadComesTo : Settings → Core → List ℕ → ScriptOutcome → Core → Type 0

@@ -10,6 +10,7 @@ use Rattle.cq_reply.specs.declared.reply.Reply.TheVariants as reply
 use Rattle.cq_base.specs.declared.change.Change.TheVariants as change
 use Rattle.cq_drive.specs.declared.step.ScriptStep.TheVariants as step
 use Rattle.cq_drive.specs.Script.{StepComesTo}
+use Rattle.cq_base.specs.declared.refusal.Refusal.TheVariants as refusal
 
 abbrev pub lagging : Core
 lagging = record { history = event.Accept 0 (text_put (codes "a b c")) ∷ event.Done 0 1 ∷ []; applied = 1 ∷ 0 ∷ []; floors = 0 ∷ 0 ∷ [] }
@@ -43,7 +44,7 @@ pub record AreAsWorkedOut : Type 0 where
   pub asks : StepComesTo script_settings applied (step.Ask 3) (outcome.Value 1) (then (event.Ask 3))
   pub not_again : StepComesTo script_settings applied (step.Done 0 1) outcome.No applied
   pub not_open : StepComesTo script_settings applied (step.Read 2 0 0) outcome.No applied
-  pub absent : StepComesTo script_settings applied (step.Accept 5 (change.Drop (codes "p") (codes "u"))) (outcome.Reply reply.Absent) applied
+  pub absent : StepComesTo script_settings applied (step.Accept 5 (change.Drop (codes "p") (codes "u"))) (outcome.Reply (reply.Refused refusal.Absent)) applied
   pub floor_waits : StepComesTo script_settings viewed (step.Floor 2) outcome.No viewed
   pub sets_floor : StepComesTo script_settings unseen (step.Floor 2) outcome.Done given_up
   pub not_below : StepComesTo script_settings given_up (step.Floor 1) outcome.No given_up

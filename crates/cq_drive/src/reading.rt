@@ -1,7 +1,7 @@
 ghost use Rattle.std.specs.Prelude.{◌≡◌, ◌<◌, None, IfOk, IfErr, IfSome, true, codes, is_some};
 ghost use Rattle.std.specs.Str.{IsUtf8};
 ghost use Rattle.serde_json.specs.View.{view};
-ghost use Rattle.cq_request.specs.Sound.{IsSoundRefusal};
+ghost use Rattle.cq_request.specs.Sound.{IsSoundError};
 ghost use Rattle.cq_request.specs.Reading.{UnlessMemory};
 ghost use Rattle.cq_drive.specs.Rows.{fault_of};
 ghost use Rattle.cq_drive.specs.Sound.{IsSoundStep};
@@ -10,8 +10,8 @@ ghost use Rattle.cq_drive.specs.Reading.{step_read};
 
 use crate::row::{CALLERS, StepKind, below, fault_of, kind_of};
 use crate::step::ScriptStep;
-use cq_base::{Memory, Settings, Text};
-use cq_request::{Refusal, Request, number_at, parsed, read_value, taken};
+use cq_base::{Memory, Refusal, Settings, Text};
+use cq_request::{ReadError, Request, number_at, parsed, read_value, taken};
 use serde_json::Value;
 use std::alloc::Global;
 
@@ -61,31 +61,31 @@ fn request_name(alloc: Global) -> Result<Text, Memory>
     Text::from_bytes(alloc, b"request")
 }
 
-fn accept_of(alloc: Global, settings: &Settings, value: Value) -> Result<ScriptStep, Refusal>
+fn accept_of(alloc: Global, settings: &Settings, value: Value) -> Result<ScriptStep, ReadError>
     ensures says { UnlessMemory result (spec.step_of settings.now StepKind.Accept (view value)) }
     ensures sound { IfOk result (IsSoundStep settings.now) }
-    ensures named { IfErr result IsSoundRefusal }
+    ensures named { IfErr result IsSoundError }
 {
     let by = by_of(&value);
     match read_value(alloc, settings, request_in(value)) {
         Ok(Request::Change(change)) => Ok(ScriptStep::Accept { by, change }),
-        Ok(Request::Query(_)) => Err(Refusal::Field(request_name(alloc)?)),
-        Ok(Request::State) => Err(Refusal::Field(request_name(alloc)?)),
-        Err(refusal) => Err(refusal),
+        Ok(Request::Query(_)) => Err(ReadError::Refused(Refusal::Field(request_name(alloc)?))),
+        Ok(Request::State) => Err(ReadError::Refused(Refusal::Field(request_name(alloc)?))),
+        Err(error) => Err(error),
     }
 }
 
-fn reply_of(alloc: Global, settings: &Settings, value: Value) -> Result<ScriptStep, Refusal>
+fn reply_of(alloc: Global, settings: &Settings, value: Value) -> Result<ScriptStep, ReadError>
     ensures says { UnlessMemory result (spec.step_of settings.now StepKind.Reply (view value)) }
     ensures sound { IfOk result (IsSoundStep settings.now) }
-    ensures named { IfErr result IsSoundRefusal }
+    ensures named { IfErr result IsSoundError }
 {
     let by = by_of(&value);
     match read_value(alloc, settings, request_in(value)) {
         Ok(Request::Query(query)) => Ok(ScriptStep::Reply { by, query }),
-        Ok(Request::Change(_)) => Err(Refusal::Field(request_name(alloc)?)),
-        Ok(Request::State) => Err(Refusal::Field(request_name(alloc)?)),
-        Err(refusal) => Err(refusal),
+        Ok(Request::Change(_)) => Err(ReadError::Refused(Refusal::Field(request_name(alloc)?))),
+        Ok(Request::State) => Err(ReadError::Refused(Refusal::Field(request_name(alloc)?))),
+        Err(error) => Err(error),
     }
 }
 
@@ -95,11 +95,11 @@ fn step_of(
     settings: &Settings,
     kind: StepKind,
     value: Value,
-) -> Result<ScriptStep, Refusal>
+) -> Result<ScriptStep, ReadError>
     requires whole { fault_of settings.now.shards kind (view value) ≡ None }
     ensures says { UnlessMemory result (spec.step_of settings.now kind (view value)) }
     ensures sound { IfOk result (IsSoundStep settings.now) }
-    ensures named { IfErr result IsSoundRefusal }
+    ensures named { IfErr result IsSoundError }
 {
     match kind {
         StepKind::Accept => accept_of(alloc, settings, value),
@@ -153,19 +153,19 @@ fn fault_named(
 }
 
 // The step that a value tells, or why it is refused.
-fn step_said(alloc: Global, settings: &Settings, value: Value) -> Result<ScriptStep, Refusal>
+fn step_said(alloc: Global, settings: &Settings, value: Value) -> Result<ScriptStep, ReadError>
     ensures says { UnlessMemory result (spec.step_said settings.now (view value)) }
     ensures sound { IfOk result (IsSoundStep settings.now) }
-    ensures named { IfErr result IsSoundRefusal }
+    ensures named { IfErr result IsSoundError }
 {
     if !value.is_object() {
-        return Err(Refusal::Json);
+        return Err(ReadError::Refused(Refusal::Json));
     }
     let Some(kind) = kind_of(&value) else {
-        return Err(Refusal::Op);
+        return Err(ReadError::Refused(Refusal::Op));
     };
     match fault_named(alloc, settings, kind, &value)? {
-        Some(name) => Err(Refusal::Field(name)),
+        Some(name) => Err(ReadError::Refused(Refusal::Field(name))),
         None => step_of(alloc, settings, kind, value),
     }
 }
@@ -174,13 +174,13 @@ fn step_said(alloc: Global, settings: &Settings, value: Value) -> Result<ScriptS
 /// it, or one that is no object; `Op` where its `step` is none; `Field` names the first field of its row that is
 /// missing or not of its form, or else the least other key. A line that has none of these has the refusals of the
 /// request in it.
-pub fn read_step(alloc: Global, settings: &Settings, line: &[u8]) -> Result<ScriptStep, Refusal>
+pub fn read_step(alloc: Global, settings: &Settings, line: &[u8]) -> Result<ScriptStep, ReadError>
     ensures says { UnlessMemory result (step_read settings.now line.now) }
     ensures sound { IfOk result (IsSoundStep settings.now) }
-    ensures named { IfErr result IsSoundRefusal }
+    ensures named { IfErr result IsSoundError }
 {
     match parsed(alloc, line) {
         Ok(value) => step_said(alloc, settings, value),
-        Err(refusal) => Err(refusal),
+        Err(error) => Err(error),
     }
 }

@@ -8,10 +8,10 @@ ghost use Rattle.cq_drive.specs.Sound.{IsSoundStep};
 use crate::stepping::{finished, stepped};
 use crate::viewing::{read, reply};
 use crate::{ScriptOutcome, ScriptStep, line_of, read_step};
-use cq_answer::refused_as;
 use cq_base::{Memory, Steps};
 use cq_core::{Core, Step};
-use cq_reply::{Line, Short, fixed};
+use cq_reply::{Line, Reply, Short, fixed};
+use cq_request::ReadError;
 use cq_work::{Keyer, Work};
 use std::alloc::Global;
 use std::sync::ledger::Ledger;
@@ -80,7 +80,8 @@ fn said<R: Threads + Sync, L: Ledger>(
 {
     match read_step(alloc, &keyer.settings, line) {
         Ok(step) => outcome_of(rt, alloc, keyer, core, step, steps),
-        Err(refusal) => Ok(ScriptOutcome::Reply(refused_as(refusal)?)),
+        Err(ReadError::Refused(refusal)) => Ok(ScriptOutcome::Reply(Reply::Refused(refusal))),
+        Err(ReadError::Memory) => Err(Memory),
     }
 }
 

@@ -1,6 +1,5 @@
 ghost use Rattle.std.specs.Prelude.{◌≡◌, IfOk, OnErr, map};
-ghost use Rattle.serde_json.specs.Data.{array};
-ghost use Rattle.serde_json.specs.View.{view, items_of};
+ghost use Rattle.serde_json.specs.View.{view};
 ghost use Rattle.cq_reply.specs.Lines.{bytes_of};
 ghost use Rattle.cq_drive.specs.Outcomes.{entry_data, read_data, read_line, line_of as line_of_outcome, IsOutcomeText, NeedsMemory};
 

@@ -17,7 +17,7 @@ use Rattle.cq_history.specs.declared.event.Event.TheVariants.{Accept}
 use Rattle.cq_lines.specs.Pieces.{line_limit}
 use Rattle.cq_request.specs.Named.{IsNamed}
 use Rattle.cq_request.specs.Reading.{line_says}
-use Rattle.cq_request.specs.declared.request.Refusal.{Refusal}
+use Rattle.cq_base.specs.declared.refusal.Refusal.{Refusal}
 use Rattle.cq_request.specs.declared.request.Request.{Request}
 use Rattle.cq_request.specs.declared.request.Request.TheVariants as request
 use Rattle.cq_talk.proofs.Causing.{cause_is}

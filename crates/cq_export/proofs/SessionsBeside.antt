@@ -1,5 +1,5 @@
 -- A session with workers beside it behind lines that are accepted changes, and what is asked of the version that they make.
-use Rattle.std.proofs.Common.{◌≡◌, ◌≢◌, ◌⊎◌, ℕ, ◌+◌, max, Bool, true, false, List, [], ◌∷◌, ◌++◌, length, map, None, Ok, refl, sym, ap, ap₂, ◌∙◌, subst, inl, inr, ⊎_elim, append_assoc, length-append, arith}
+use Rattle.std.proofs.Common.{◌≡◌, ◌≢◌, ◌⊎◌, ℕ, ◌+◌, max, true, false, List, [], ◌∷◌, ◌++◌, length, map, None, refl, sym, ap, ap₂, ◌∙◌, subst, inl, inr, ⊎_elim, append_assoc, length-append, arith}
 use Rattle.std.specs.List.{AllByRecursion}
 use Rattle.std.proofs.lemmas.List.{append-nil, map-append}
 use Rattle.cq_answer.specs.Reply.{IsReply}
@@ -13,11 +13,10 @@ use Rattle.cq_export.specs.Laws.{IsQuestion, AreTold}
 use Rattle.cq_export.specs.Lines.{SayChanges, AreAcceptedBehind}
 use Rattle.cq_reply.specs.declared.reply.Reply.{Reply}
 use Rattle.cq_reply.specs.declared.reply.Reply.TheVariants as reply
-use Rattle.cq_request.specs.declared.request.Request.TheVariants as request
 use Rattle.cq_talk.specs.Beside.{Known, nothing_known, changes_then, known_then, IsChangedBeside, IsAnsweredBeside, IsReplyBeside, IsBeside}
 use Rattle.cq_talk.specs.Causes.{state_at, cause}
 use Rattle.cq_talk.specs.Replies.{answered_in}
-use Rattle.cq_talk.specs.Said.{Said, Read, WasRead, said}
+use Rattle.cq_talk.specs.Said.{Said, WasRead, said}
 use Rattle.cq_tokask.specs.Asked.{AnswersSaid, AnswersLine, AnswersLines}
 use Rattle.cq_tokask.specs.Exported.{IsOfChanges, AnswersAsItsChanges}
 use Rattle.cq_tokfile.specs.declared.snapshot.Snapshot.{Snapshot}

@@ -1,5 +1,5 @@
 -- The lines of a source as changes, each accepted after those before it.
-use Rattle.std.specs.Prelude.{All, ◌≡◌, ◌⊎◌, ◌<◌, ◌≤◌, ℕ, Bool, true, false, List, ◌∷◌, [], ◌++◌, length, map, Option, Some, None, IsSome, Result, Ok, Err}
+use Rattle.std.specs.Prelude.{All, ◌≡◌, ◌<◌, ◌≤◌, ℕ, Bool, true, false, List, ◌∷◌, [], ◌++◌, length, map, Option, Some, None, IsSome, Result, Ok, Err}
 use Rattle.std.specs.Io.KnownBytes.{Consumes, IsAtEnd}
 use Rattle.std.specs.List.{AllZip}
 use Rattle.cq_base.specs.declared.change.Change.{Change}
@@ -14,7 +14,7 @@ use Rattle.cq_lines.specs.Held.{Held}
 use Rattle.cq_lines.specs.Pieces.{closed_lines, all_lines}
 use Rattle.cq_lines.specs.Runs.{CutTo, AreWhole}
 use Rattle.cq_request.specs.Named.{IsNamed}
-use Rattle.cq_request.specs.declared.request.Refusal.{Refusal}
+use Rattle.cq_base.specs.declared.refusal.Refusal.{Refusal}
 use Rattle.cq_request.specs.declared.request.Request.{Request}
 use Rattle.cq_request.specs.declared.request.Request.TheVariants as request
 use Rattle.cq_talk.specs.Causes.{cause}

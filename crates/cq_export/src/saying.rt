@@ -3,9 +3,8 @@ ghost use Rattle.cq_base.specs.Changes.{IsSoundChange};
 ghost use Rattle.cq_export.specs.Lines.{SaysOrNot};
 ghost use Rattle.cq_request.specs.Reading.{line_says};
 
-use cq_answer::refused_as;
 use cq_base::{Change, Memory, Settings};
-use cq_request::{Request, read_request};
+use cq_request::{ReadError, Request, read_request};
 use std::alloc::Global;
 
 /// The change that a line asks for, and None if it says anything else.
@@ -21,9 +20,7 @@ pub(crate) fn change_said(
         Ok(Request::Change(change)) => Ok(Some(change)),
         Ok(Request::Query(_query)) => Ok(None),
         Ok(Request::State) => Ok(None),
-        Err(refusal) => match refused_as(refusal) {
-            Ok(_told) => Ok(None),
-            Err(Memory) => Err(Memory),
-        },
+        Err(ReadError::Refused(_refusal)) => Ok(None),
+        Err(ReadError::Memory) => Err(Memory),
     }
 }

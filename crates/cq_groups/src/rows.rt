@@ -1,4 +1,4 @@
-ghost use Rattle.std.specs.Prelude.{◌≡◌, ◌+◌, ◌*◌, ◌^◌, ◌<◌, ◌≤◌, ◌++◌, ◌∷◌, [], ◌↔◌, length, IsTrue, IfOk, OnOk, IfSome, All};
+ghost use Rattle.std.specs.Prelude.{◌≡◌, ◌+◌, ◌*◌, ◌^◌, ◌<◌, ◌++◌, ◌∷◌, [], ◌↔◌, length, IsTrue, IfOk, OnOk, IfSome, All};
 ghost use Rattle.cq_groups.specs.Rows.{row_spots, all_of, IsSteps, IsRow, AreRows};
 ghost use Rattle.cq_groups.specs.Sets.{set_spots, IsRowOf, AddsRow};
 

@@ -1,5 +1,5 @@
 -- Which changes are gone at a floor: what is computed is what is said.
-use Rattle.std.proofs.Common.{◌≡◌, ℕ, ◌+◌, ◌-◌, ◌<◌, ◌≤◌, Bool, true, false, List, ◌++◌, length, get_or, take, drop, min, Some, refl, sym, subst, ap, ◌∙◌, arith, Contains, length-append}
+use Rattle.std.proofs.Common.{◌≡◌, ℕ, ◌+◌, ◌-◌, ◌<◌, ◌≤◌, Bool, true, List, ◌++◌, length, get_or, take, drop, min, Some, refl, sym, subst, ap, ◌∙◌, arith, Contains, length-append}
 use Rattle.std.specs.Prelude.{◌↔◌, not, slice_get, nat_le}
 use Rattle.std.specs.List.{list_any, range_with_len}
 use Rattle.std.specs.List.Sorted.{IsStrictlyIncreasing}

@@ -18,7 +18,7 @@ pub struct Counted {
 }
 
 impl Indexed for Counted {
-    ghost use Rattle.std.specs.Prelude.{◌≡◌, ◌∷◌, [], refl};
+    ghost use Rattle.std.specs.Prelude.{◌∷◌, [], refl};
     ghost use Rattle.std.proofs.Common.{rules};
 
     ghost keys_in = { λ work. 3 ∷ 4 ∷ [] };

@@ -6,9 +6,8 @@ use Rattle.std.proofs.lemmas.List.{map_push, length_push}
 use Rattle.std.proofs.lemmas.List.Elements.{All-push}
 use Rattle.std.proofs.lemmas.List.Quantifiers.{all_pairs_push}
 use Rattle.cq_base.specs.declared.settings.Settings.{Settings}
-use Rattle.cq_base.specs.declared.norm.Norm.{Norm}
 use Rattle.cq_tokens.specs.declared.FileTokens.{FileTokens}
-use Rattle.cq_tokens.specs.Corpus.{changes_of, corpus_of, keys_of}
+use Rattle.cq_tokens.specs.Corpus.{changes_of, corpus_of}
 use Rattle.cq_work.specs.Keys.{window_keys}
 use Rattle.cq_index_trials.specs.Project.{IsProject}
 

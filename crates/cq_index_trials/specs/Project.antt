@@ -1,5 +1,5 @@
 -- Files with different changes, each with the keys of its windows.
-use Rattle.std.specs.Prelude.{◌≡◌, ◌≢◌, ◌<◌, ◌≤◌, ◌^◌, List, length, map, All, AllPairs}
+use Rattle.std.specs.Prelude.{◌≡◌, ◌≢◌, ◌<◌, ◌^◌, List, length, map, All, AllPairs}
 use Rattle.cq_base.specs.declared.settings.Settings.{Settings}
 use Rattle.cq_tokens.specs.declared.FileTokens.{FileTokens}
 use Rattle.cq_tokens.specs.Corpus.{changes_of, corpus_of, keys_of}

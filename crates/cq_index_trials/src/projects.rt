@@ -1,7 +1,6 @@
-ghost use Rattle.std.specs.Prelude.{◌≡◌, ◌≢◌, ◌≤◌, ◌<◌, ◌^◌, length, map, AllPairs, IfOk, vec_len};
+ghost use Rattle.std.specs.Prelude.{◌≡◌, ◌≤◌, ◌<◌, ◌^◌, length, IfOk, vec_len};
 ghost use Rattle.std.specs.Arc.{arc_value};
 ghost use Rattle.cq_work.specs.Keys.{window_keys};
-ghost use Rattle.cq_tokens.specs.Corpus.{changes_of, corpus_of, keys_of};
 ghost use Rattle.cq_tokens.specs.Packed.{spelling_bytes};
 ghost use Rattle.cq_index_trials.specs.Project.{IsProject};
 

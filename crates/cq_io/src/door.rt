@@ -6,7 +6,6 @@ use crate::memory::{MemSink, MemSource};
 use crate::sink::Sink;
 use crate::source::{Failed, Source};
 use cq_base::Text;
-use std::alloc::Global;
 use std::collections::VecDeque;
 
 /// Where connections come from, each a source and a sink.

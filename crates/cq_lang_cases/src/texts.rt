@@ -1,5 +1,4 @@
 use cq_base::{Field, Memory, Settings, Text, line_count, line_of};
-use std::alloc::Global;
 use std::cmp::Ordering;
 
 const IN_RANGE: Settings = Settings {

@@ -1,5 +1,3 @@
-ghost use Rattle.std.specs.Prelude.{◌≡◌, ◌≤◌};
-
 use cq_base::{Lang, Memory, Settings, Text};
 use cq_work::{Keyer, State, work_of};
 use std::alloc::Global;

@@ -4,39 +4,15 @@ use Rattle.std.proofs.lemmas.Bool.{lt-ltb, le-ltb}
 use Rattle.cq_base.specs.declared.change.Change.{Change}
 use Rattle.cq_base.specs.declared.settings.Settings.{Settings}
 use Rattle.cq_lines.specs.Pieces.{line_limit}
-use Rattle.cq_log.specs.Logs.{Front, front_of, is_accepted, is_torn, after_whole, after_torn, onto, held_in}
-use Rattle.cq_log.specs.Takers.{HasHeld, TakesOne, TakesLine, IsOther, IsOtherRefusal, mended_by}
+use Rattle.cq_log.specs.Logs.{Front, front_of, is_accepted, after_whole, after_torn, onto, held_in}
+use Rattle.cq_log.specs.Takers.{HasHeld, TakesOne, TakesLine, IsOther, mended_by}
 use Rattle.cq_log.proofs.Growing.{held_push}
 use Rattle.cq_request.specs.Reading.{line_says}
-use Rattle.cq_request.specs.declared.request.Refusal.{Refusal}
-use Rattle.cq_request.specs.declared.request.Refusal.TheVariants as refusal
+use Rattle.cq_base.specs.declared.refusal.Refusal.{Refusal}
+use Rattle.cq_base.specs.declared.refusal.Refusal.TheVariants as refusal
 use Rattle.cq_request.specs.declared.request.Request.{Request}
 use Rattle.cq_request.specs.declared.request.Request.TheVariants as request
 use Rattle.cq_talk.specs.Said.{Said, TooLong, Read, said}
-
--- ---- why a line is refused
-
-pub torn_is_json : (why : Refusal) → is_torn why ≡ true → why ≡ refusal.Json
-torn_is_json refusal.Json is = refl
-torn_is_json refusal.Op is = absurd (cc)
-torn_is_json (refusal.Field name) is = absurd (cc)
-torn_is_json refusal.Lang is = absurd (cc)
-torn_is_json refusal.Path is = absurd (cc)
-torn_is_json refusal.TooMuchText is = absurd (cc)
-torn_is_json refusal.Min is = absurd (cc)
-torn_is_json refusal.Scope is = absurd (cc)
-torn_is_json refusal.Memory is = absurd (cc)
-
-pub other_refusal : (why : Refusal) → is_torn why ≡ false → IsOtherRefusal why
-other_refusal refusal.Json is = absurd (cc)
-other_refusal refusal.Op is = tt
-other_refusal (refusal.Field name) is = tt
-other_refusal refusal.Lang is = tt
-other_refusal refusal.Path is = tt
-other_refusal refusal.TooMuchText is = tt
-other_refusal refusal.Min is = tt
-other_refusal refusal.Scope is = tt
-other_refusal refusal.Memory is = tt
 
 -- ---- what a line says
 
@@ -68,15 +44,7 @@ module _ {T : Type 0} (Has : T → Settings → List (List ℕ) → List Change 
   other_held front line (Ok (request.Change change)) other = absurd other
   other_held front line (Ok (request.Query query)) other = refl
   other_held front line (Ok request.State) other = refl
-  other_held front line (Err refusal.Json) other = absurd other
-  other_held front line (Err refusal.Op) other = refl
-  other_held front line (Err (refusal.Field name)) other = refl
-  other_held front line (Err refusal.Lang) other = refl
-  other_held front line (Err refusal.Path) other = refl
-  other_held front line (Err refusal.TooMuchText) other = refl
-  other_held front line (Err refusal.Min) other = refl
-  other_held front line (Err refusal.Scope) other = refl
-  other_held front line (Err refusal.Memory) other = refl
+  other_held front line (Err why) other = ap (λ (b : Bool). if b then Some (front_of front.own front.changes true) else None) other
 
   pub other_refused : (line : List ℕ) (old new : T) → length line ≤ line_limit → IsOther (line_says set.chunk line) → TakesLine Has set false line old new None
   other_refused line old new short other lines has =

@@ -4,8 +4,8 @@ use Rattle.std.specs.Prelude.{ℕ, Bool, true, false, if◌then◌else◌, List,
 use Rattle.cq_base.specs.declared.change.Change.{Change}
 use Rattle.cq_base.specs.declared.settings.Settings.{Settings}
 use Rattle.cq_lines.specs.Pieces.{all_lines}
-use Rattle.cq_request.specs.declared.request.Refusal.{Refusal}
-use Rattle.cq_request.specs.declared.request.Refusal.TheVariants as refusal
+use Rattle.cq_base.specs.declared.refusal.Refusal.{Refusal}
+use Rattle.cq_base.specs.declared.refusal.Refusal.TheVariants as refusal
 use Rattle.cq_request.specs.declared.request.Request.TheVariants as request
 use Rattle.cq_talk.specs.Causes.{cause}
 use Rattle.cq_talk.specs.Said.{Said, TooLong, Read, said}
@@ -34,14 +34,7 @@ with_change set front line change = if is_accepted set front.changes change then
 -- only a line that is no JSON object was cut off
 abbrev pub is_torn : Refusal → Bool
 is_torn refusal.Json = true
-is_torn refusal.Op = false
-is_torn (refusal.Field name) = false
-is_torn refusal.Lang = false
-is_torn refusal.Path = false
-is_torn refusal.TooMuchText = false
-is_torn refusal.Min = false
-is_torn refusal.Scope = false
-is_torn refusal.Memory = false
+is_torn _ = false
 
 -- after a whole line, by what the line says: a change, or nothing since it was cut off; a log has no other lines
 abbrev pub after_whole : Settings → Front → List ℕ → Said → Option Front

@@ -8,14 +8,14 @@ use Rattle.cq_io.specs.Causes.{Rose}
 use Rattle.cq_lines.specs.Held.{Held}
 use Rattle.cq_lines.specs.Pieces.{all_lines, closed_lines}
 use Rattle.cq_lines.specs.Runs.{CutTo, AreWhole}
-use Rattle.cq_log.specs.Logs.{held_in, front_of, is_accepted}
+use Rattle.cq_log.specs.Logs.{held_in, front_of, is_accepted, is_torn}
 use Rattle.cq_log.specs.Mending.{is_unclosed}
 use Rattle.cq_log.specs.declared.reading.LogLine.{LogLine}
 use Rattle.cq_log.specs.declared.reading.LogLine.TheVariants as said_by
 use Rattle.cq_log.specs.declared.taking.Taken.{Taken}
 use Rattle.cq_log.specs.declared.taking.Taken.TheVariants as taken
-use Rattle.cq_request.specs.declared.request.Refusal.{Refusal}
-use Rattle.cq_request.specs.declared.request.Refusal.TheVariants as refusal
+use Rattle.cq_base.specs.declared.refusal.Refusal.{Refusal}
+use Rattle.cq_base.specs.declared.refusal.Refusal.TheVariants as refusal
 use Rattle.cq_request.specs.declared.request.Request.{Request}
 use Rattle.cq_request.specs.declared.request.Request.TheVariants as request
 
@@ -101,24 +101,12 @@ abbrev pub mended_by : List ℕ → Option Bool
 mended_by [] = Some false
 mended_by (b ∷ line) = None
 
--- a refusal that is no change, and not for want of memory
-abbrev pub IsOtherRefusal : Refusal → Type 0
-IsOtherRefusal refusal.Json = ⊥
-IsOtherRefusal refusal.Op = Unit {0}
-IsOtherRefusal (refusal.Field name) = Unit {0}
-IsOtherRefusal refusal.Lang = Unit {0}
-IsOtherRefusal refusal.Path = Unit {0}
-IsOtherRefusal refusal.TooMuchText = Unit {0}
-IsOtherRefusal refusal.Min = Unit {0}
-IsOtherRefusal refusal.Scope = Unit {0}
-IsOtherRefusal refusal.Memory = Unit {0}
-
 -- no change, and no line that was cut off
 abbrev pub IsOther : Result Request Refusal → Type 0
 IsOther (Ok (request.Change change)) = ⊥
 IsOther (Ok (request.Query query)) = Unit {0}
 IsOther (Ok request.State) = Unit {0}
-IsOther (Err why) = IsOtherRefusal why
+IsOther (Err why) = is_torn why ≡ false
 
 -- the change of a line is sound
 abbrev pub IsSoundLine : LogLine → Type 0

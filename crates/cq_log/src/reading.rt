@@ -1,13 +1,10 @@
-ghost use Rattle.std.specs.Prelude.{◌≡◌, Err, IfOk, OnOk};
-ghost use Rattle.cq_answer.specs.Refusals.{IsTold};
+ghost use Rattle.std.specs.Prelude.{◌≡◌, IfOk};
 ghost use Rattle.cq_log.specs.Logs.{is_torn};
 ghost use Rattle.cq_log.specs.Takers.{IsLogLine, IsSoundLine};
 ghost use Rattle.cq_request.specs.Reading.{line_says};
-ghost use Rattle.cq_request.specs.Sound.{IsSoundRefusal};
 
-use cq_answer::refused_as;
-use cq_base::{Change, Memory, Settings};
-use cq_request::{Refusal, Request, read_request};
+use cq_base::{Change, Memory, Refusal, Settings};
+use cq_request::{ReadError, Request, read_request};
 use std::alloc::Global;
 
 /// What a line of a log is, if the line before it is whole.
@@ -27,33 +24,7 @@ fn was_cut_off(why: &Refusal) -> bool
 {
     match why {
         Refusal::Json => true,
-        Refusal::Op => false,
-        Refusal::Field(_name) => false,
-        Refusal::Lang => false,
-        Refusal::Path => false,
-        Refusal::TooMuchText => false,
-        Refusal::Min => false,
-        Refusal::Scope => false,
-        Refusal::Memory => false,
-    }
-}
-
-// What a line is that is refused for this.
-fn refused_line(why: Refusal) -> Result<LogLine, Memory>
-    requires sound { IsSoundRefusal why }
-    ensures is { IfOk result (IsLogLine (Err why)) }
-    ensures told { OnOk result (IsTold why) }
-    ensures line { IfOk result IsSoundLine }
-{
-    let torn = was_cut_off(&why);
-    match refused_as(why) {
-        Ok(_told) => {
-            if torn {
-                return Ok(LogLine::Torn);
-            }
-            Ok(LogLine::Other)
-        }
-        Err(Memory) => Err(Memory),
+        _ => false,
     }
 }
 
@@ -66,6 +37,12 @@ pub(crate) fn log_line(alloc: Global, settings: &Settings, line: &[u8]) -> Resul
         Ok(Request::Change(change)) => Ok(LogLine::Change(change)),
         Ok(Request::Query(_query)) => Ok(LogLine::Other),
         Ok(Request::State) => Ok(LogLine::Other),
-        Err(why) => refused_line(why),
+        Err(ReadError::Refused(why)) => {
+            if was_cut_off(&why) {
+                return Ok(LogLine::Torn);
+            }
+            Ok(LogLine::Other)
+        }
+        Err(ReadError::Memory) => Err(Memory),
     }
 }

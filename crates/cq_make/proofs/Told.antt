@@ -10,7 +10,6 @@ use Rattle.cq_base.specs.declared.settings.Settings.{Settings}
 use Rattle.cq_reply.specs.declared.reply.FileRow.{FileRow}
 use Rattle.cq_reply.specs.declared.reply.GroupRow.{GroupRow}
 use Rattle.cq_reply.specs.declared.reply.Reply.{Reply}
-use Rattle.cq_reply.specs.declared.reply.Reply.TheVariants as reply
 use Rattle.cq_request.specs.declared.request.Kind.TheVariants as kind
 use Rattle.cq_make.specs.Generator.{project, puts_to}
 use Rattle.cq_make.specs.Made.{ShowsFiles, ShowsGroups, ShowsMeasures}

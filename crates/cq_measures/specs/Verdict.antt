@@ -1,24 +1,13 @@
 -- The verdict of a gate on some measures.
 use Rattle.std.specs.Prelude.{ℕ, nat_lt, Bool, List, [], ◌∷◌, length, filter, slice_get, option_map, unwrap_or, false}
 use Rattle.std.specs.List.{range_with_len}
-use Rattle.cq_base.specs.declared.change.Metric.{Metric}
-use Rattle.cq_base.specs.declared.change.Metric.TheVariants as metric
 use Rattle.cq_base.specs.declared.change.Compare.{Compare}
 use Rattle.cq_base.specs.declared.change.Compare.TheVariants as compare
 use Rattle.cq_base.specs.declared.change.Condition.{Condition}
 use Rattle.cq_base.specs.declared.measures.Measures.{Measures}
+use Rattle.cq_base.specs.Measures.{measure_of}
 use Rattle.cq_measures.specs.declared.outcome.Verdict.{Verdict}
 use Rattle.cq_measures.specs.declared.outcome.Verdict.TheVariants as verdict
-
-abbrev pub measure_of : Metric → Measures → ℕ
-measure_of metric.Lines m = m.lines
-measure_of metric.Ncloc m = m.ncloc
-measure_of metric.Files m = m.files
-measure_of metric.Complexity m = m.complexity
-measure_of metric.DupLines m = m.dup_lines
-measure_of metric.DupBlocks m = m.dup_blocks
-measure_of metric.DupFiles m = m.dup_files
-measure_of metric.Density m = m.density
 
 -- the measure is greater, or less, than the number
 abbrev pub is_beyond : Compare → ℕ → ℕ → Bool

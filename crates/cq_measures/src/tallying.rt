@@ -1,7 +1,6 @@
 ghost use Rattle.std.specs.Prelude.{◌≡◌, ℕ, ◌<◌, ◌≤◌, ◌^◌, length, map, IfOk};
 ghost use Rattle.cq_measures.specs.Calls.{IsSumOf};
 ghost use Rattle.cq_measures.specs.Counts.{IsTallyOf};
-ghost use Rattle.cq_measures.specs.Measures.{spans_of};
 ghost use Rattle.cq_measures.specs.Parted as spec;
 
 use crate::counting::{Tally, count_up};

@@ -1,4 +1,4 @@
-ghost use Rattle.std.specs.Prelude.{◌≡◌, ℕ, ◌^◌, ◌<◌, ◌≤◌, Result, Ok, List, length, drop, IfOk, IfSome, IsUtf8};
+ghost use Rattle.std.specs.Prelude.{◌≡◌, ℕ, ◌^◌, ◌<◌, ◌≤◌, Result, List, length, drop, IfOk, IfSome, IsUtf8};
 ghost use Rattle.cq_base.specs.declared.token.Spelled.{Spelled};
 ghost use Rattle.cq_munch.specs.declared.unit.Unit.{Unit};
 ghost use Rattle.cq_munch.specs.Language.{Language, Takes, HasOneKind};

@@ -1,4 +1,4 @@
-ghost use Rattle.std.specs.Prelude.{◌≡◌, ℕ, List, [], ◌∷◌, ◌↔◌, IsTrue, IfSome, IfNone, map};
+ghost use Rattle.std.specs.Prelude.{ℕ, List, [], ◌∷◌, ◌↔◌, IsTrue, IfSome, IfNone, map};
 ghost use Rattle.cq_munch.specs.Longest.{LongestAt};
 ghost use Rattle.cq_munch.specs.Scans.{Scanned};
 

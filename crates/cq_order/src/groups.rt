@@ -5,7 +5,7 @@ ghost use Rattle.cq_base.specs.Places.{first_place};
 ghost use Rattle.cq_order.specs.Order.{IsOrderOf, comes_before};
 
 use crate::places::compare_places;
-use cq_base::{Group, Memory, Place};
+use cq_base::{Group, Memory};
 use std::cmp::Ordering;
 
 /// By the first place, and longer first.

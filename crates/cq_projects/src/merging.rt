@@ -1,5 +1,5 @@
 //! The list of a project's files with a batch of edits, made in one walk in path order.
-ghost use Rattle.std.specs.Prelude.{◌≡◌, ◌≤◌, ◌++◌, ◌-◌, take, drop, IfOk, OnOk};
+ghost use Rattle.std.specs.Prelude.{◌≡◌, ◌++◌, ◌-◌, take, drop, IfOk, OnOk};
 ghost use Rattle.std.specs.Vec.Iter.{into_iter_items};
 ghost use Rattle.cq_projects.specs.Drafts.{files_at, held_in, AreOwn, AreCut, AreMerged, Joins};
 

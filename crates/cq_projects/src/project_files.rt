@@ -1,4 +1,4 @@
-ghost use Rattle.std.specs.Prelude.{◌≡◌, ◌≢◌, ◌<◌, List, [], length, map, slice_get, Some, AllPairs, IfOk, OnOk, OnErr};
+ghost use Rattle.std.specs.Prelude.{◌≡◌, ◌<◌, List, [], length, map, slice_get, Some, IfOk, OnOk, OnErr};
 ghost use Rattle.std.specs.Arc.{arc_value};
 ghost use Rattle.cq_history.specs.Files.{with_file, without_file};
 ghost use Rattle.cq_order.specs.Spots.{AreSpots, IsPositionOf};

@@ -1,5 +1,5 @@
 -- Tokens that are added one after the other.
-use Rattle.std.proofs.Common.{◌≡◌, ℕ, ◌+◌, ◌<◌, List, [], ◌∷◌, ◌++◌, length, take, map, get_or, Some, refl, sym, ap, ◌∙◌, subst, arith, append_assoc, append-nil}
+use Rattle.std.proofs.Common.{◌≡◌, ℕ, ◌+◌, ◌<◌, List, [], ◌∷◌, ◌++◌, length, take, map, get_or, Some, refl, sym, ap, ◌∙◌, subst, subst₂, arith, append_assoc, append-nil}
 use Rattle.std.specs.Prelude.{Result, Ok, OnOk, flat_map, option_map}
 use Rattle.std.specs.List.{AllByRecursion}
 use Rattle.std.proofs.lemmas.Grind.{common_steps}
@@ -11,7 +11,7 @@ use Rattle.serde_json.specs.Data.{Data, array, Items}
 use Rattle.serde_json.specs.Read.{of_items}
 use Rattle.serde_json.specs.View.{items_of}
 use Rattle.serde_json.specs.Written.{items_outline}
-use Rattle.cq_reply.specs.Added.{Adds, tokens_of, IsReadBack, AddsValue, AddsMember, AddsEach}
+use Rattle.cq_reply.specs.Added.{Adds, tokens_of, IsReadBack, AddsValue, AddsMember, AddsMembers, AddsEach}
 
 -- ---- one after the other
 
@@ -42,6 +42,9 @@ named d c r k h = on_ok_weaker r (λ v. record { adds = then (wrote k) v.adds; r
 
 pub same_member : {name : List ℕ} {d e : Data} {a b : Written} → d ≡ e → AddsMember name d a b → AddsMember name e a b
 same_member {name = name} {d = d} {e = e} {a = a} {b = b} same h = subst (λ (x : Data). AddsMember name x a b) same h
+
+pub as_member : {name other : List ℕ} {d e : Data} {a b : Written} → name ≡ other → d ≡ e → AddsMember name d a b → AddsMember other e a b
+as_member {name = name} {other = other} {d = d} {e = e} {a = a} {b = b} renamed same h = subst₂ (λ (n : List ℕ) (x : Data). AddsMember n x a b) renamed same h
 
 pub same_value : {d e : Data} {a b : Written} → d ≡ e → AddsValue d a b → AddsValue e a b
 same_value {d = d} {e = e} {a = a} {b = b} same h = subst (λ (x : Data). AddsValue x a b) same h
@@ -76,6 +79,19 @@ each_more data_of xs i x {a = a} {b = b} {c = c} within is done here =
       adds = regrouped (sym (flat_more (λ y. tokens_of (data_of y)) (take i xs) x)) (then done.adds here.adds);
       reads = read_more data_of (take i xs) x done.reads here.reads;
     })
+
+pub members_none : {X : Type 0} (name_of : X → List ℕ) (data_of : X → Data) (a : Written) → AddsMembers name_of data_of [] a a
+members_none name_of data_of a = record { adds = record { before = refl; tokens = sym (append-nil a.tokens) }; reads = tt }
+
+pub members_more : {X : Type 0} (name_of : X → List ℕ) (data_of : X → Data) (xs : List X) (i : ℕ) (x : X) {a b c : Written} → i < length xs → x ≡ get_or xs i x → AddsMembers name_of data_of (take i xs) a b → AddsMember (name_of x) (data_of x) b c → AddsMembers name_of data_of (take (i + 1) xs) a c
+members_more name_of data_of xs i x {a = a} {b = b} {c = c} within is done here =
+    subst (λ ys. AddsMembers name_of data_of ys a c) (sym (one_more xs i x within is)) (record {
+      adds = regrouped (sym (flat_more (λ y. key (name_of y) ∷ tokens_of (data_of y)) (take i xs) x)) (then done.adds here.adds);
+      reads = read_more data_of (take i xs) x done.reads here.reads;
+    })
+
+pub all_members : {X : Type 0} (name_of : X → List ℕ) (data_of : X → Data) (xs ys : List X) {a b : Written} → ys ≡ xs → AddsMembers name_of data_of ys a b → AddsMembers name_of data_of xs a b
+all_members name_of data_of xs ys {a = a} {b = b} whole each = subst (λ zs. AddsMembers name_of data_of zs a b) whole each
 
 -- the list with its brackets
 pub listed : {E F : Type 0} {u : Unit {0}} {X : Type 0} (data_of : X → Data) (xs ys : List X) {a b c d : Written} (r : Result (Unit {0}) E) → ys ≡ xs → Writes {E = F} (Ok u) a b begin_array → AddsEach data_of ys b c → Writes r c d end_array

@@ -37,6 +37,11 @@ pub record AddsEach {X : Type 0} (data_of : X → Data) (xs : List X) (old new :
   pub adds : Adds (flat_map (λ x. tokens_of (data_of x)) xs) old new
   pub reads : AllByRecursion (λ x. IsReadBack (data_of x)) xs
 
+-- a member for each of these, one after the other
+pub record AddsMembers {X : Type 0} (name_of : X → List ℕ) (data_of : X → Data) (xs : List X) (old new : Written) : Type 0 where
+  pub adds : Adds (flat_map (λ x. key (name_of x) ∷ tokens_of (data_of x)) xs) old new
+  pub reads : AllByRecursion (λ x. IsReadBack (data_of x)) xs
+
 -- the members that every file has, and the end of their object
 pub record AddsFile (row : FileRow) (state : List ℕ) (old new : Written) : Type 0 where
   pub adds : Adds (members_tokens (members_outline (file_members row state))) old new

@@ -1,27 +1,15 @@
-ghost use Rattle.std.specs.Prelude.{◌≡◌, OnOk, map};
+ghost use Rattle.std.specs.Prelude.{OnOk, map};
 ghost use Rattle.std.specs.List.{AllByRecursion};
 ghost use Rattle.serde_json.specs.Data.{array, object};
 ghost use Rattle.serde_json.specs.View.{items_of};
 ghost use Rattle.cq_reply.specs.declared.reply.Shown.TheVariants.{Fault};
 ghost use Rattle.cq_reply.specs.Added.{AddsValue, AddsFile};
-ghost use Rattle.cq_reply.specs.Written.{word_of, file_members, shown_data, file_data, files_data, IsFileText};
+ghost use Rattle.cq_reply.specs.Written.{file_members, shown_data, file_data, files_data, IsFileText};
 
 use crate::member::{write_flag, write_number, write_string, write_text};
 use crate::reply::{FileRow, Shown};
-use cq_base::Lang;
 use json::Writer;
 use std::alloc::AllocError;
-
-fn word_of(lang: Lang) -> &'static str
-    ensures { result.now ≡ word_of lang }
-{
-    match lang {
-        Lang::Any => "any",
-        Lang::Go => "go",
-        Lang::C => "c",
-        Lang::Java => "java",
-    }
-}
 
 // The members that every file has, and the end of their object.
 fn write_members(out: &mut Writer, row: &FileRow, state: &str) -> Result<(), AllocError>
@@ -29,7 +17,7 @@ fn write_members(out: &mut Writer, row: &FileRow, state: &str) -> Result<(), All
     ensures { OnOk result (AddsFile row.now state.now out.old out.new) }
 {
     write_number(out, "change", row.change)?;
-    write_string(out, "lang", word_of(row.lang))?;
+    write_string(out, "lang", row.lang.name())?;
     write_number(out, "lines", row.lines)?;
     write_text(out, "path", row.path.as_bytes())?;
     write_string(out, "state", state)?;

@@ -1,4 +1,4 @@
-ghost use Rattle.std.specs.Prelude.{OnOk, map, length};
+ghost use Rattle.std.specs.Prelude.{OnOk, map};
 ghost use Rattle.std.specs.List.{AllByRecursion};
 ghost use Rattle.serde_json.specs.Data.{array};
 ghost use Rattle.serde_json.specs.View.{items_of};

@@ -5,24 +5,20 @@ ghost use Rattle.cq_reply.specs.Added.{AddsValue};
 ghost use Rattle.cq_reply.specs.Written.{count, measures_members, measures_data, failed_data, verdict_data};
 
 use crate::member::{write_count, write_flag, write_number, write_string};
-use cq_base::Measures;
+use cq_base::{Measures, Metric};
 use cq_measures::Verdict;
 use json::Writer;
 use std::alloc::AllocError;
 
-/// The eight measures, by SonarQube's metric keys.
+/// The measures, by SonarQube's metric keys.
 pub fn write_metrics(out: &mut Writer, measures: &Measures) -> Result<(), AllocError>
     ensures { OnOk result (AddsValue (measures_members measures.now) out.old out.new) }
 {
     out.begin_object()?;
-    write_number(out, "complexity", measures.complexity)?;
-    write_number(out, "duplicated_blocks", measures.dup_blocks)?;
-    write_number(out, "duplicated_files", measures.dup_files)?;
-    write_number(out, "duplicated_lines", measures.dup_lines)?;
-    write_number(out, "duplicated_lines_density", measures.density)?;
-    write_number(out, "files", measures.files)?;
-    write_number(out, "lines", measures.lines)?;
-    write_number(out, "ncloc", measures.ncloc)?;
+    let metrics = Metric::all();
+    for metric in metrics {
+        write_number(out, metric.name(), measures.get(*metric))?;
+    }
     out.end_object()
 }
 

@@ -1,4 +1,4 @@
-ghost use Rattle.std.specs.Prelude.{OnOk, true, false};
+ghost use Rattle.std.specs.Prelude.{OnOk};
 ghost use Rattle.std.specs.Str.{IsUtf8};
 ghost use Rattle.serde_json.specs.Data.{boolean, string};
 ghost use Rattle.cq_reply.specs.Added.{AddsValue, AddsMember};

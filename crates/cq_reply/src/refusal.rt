@@ -1,15 +1,16 @@
 ghost use Rattle.std.specs.Prelude.{OnOk};
 ghost use Rattle.std.specs.Str.{IsUtf8};
 ghost use Rattle.cq_reply.specs.Added.{AddsValue};
-ghost use Rattle.cq_reply.specs.Written.{refusal, future_data, field_data, state_data};
+ghost use Rattle.cq_base.specs.Refusals.{IsSoundRefusal};
+ghost use Rattle.cq_reply.specs.Written.{refusal, named_refusal, counted_refusal, refused_data, state_data};
 
 use crate::member::{write_flag, write_number, write_string, write_text};
-use cq_base::Text;
+use cq_base::{Refusal, Text};
 use json::Writer;
 use std::alloc::AllocError;
 
-/// A refusal that says no more than its code and its word.
-pub(crate) fn write_refusal(out: &mut Writer, code: u64, word: &str) -> Result<(), AllocError>
+// A refusal that says no more than its code and its word.
+fn write_refusal(out: &mut Writer, code: u64, word: &str) -> Result<(), AllocError>
     ensures { OnOk result (AddsValue (refusal code word.now) out.old out.new) }
 {
     out.begin_object()?;
@@ -19,29 +20,45 @@ pub(crate) fn write_refusal(out: &mut Writer, code: u64, word: &str) -> Result<(
     out.end_object()
 }
 
-/// The refusal of a version above this count of accepted changes.
-pub(crate) fn write_future(out: &mut Writer, count: u64) -> Result<(), AllocError>
-    ensures { OnOk result (AddsValue (future_data count) out.old out.new) }
+// One that also reports a count.
+fn write_counted(out: &mut Writer, code: u64, word: &str, count: u64) -> Result<(), AllocError>
+    ensures { OnOk result (AddsValue (counted_refusal code word.now count) out.old out.new) }
 {
     out.begin_object()?;
-    write_number(out, "code", 8)?;
+    write_number(out, "code", code)?;
     write_number(out, "count", count)?;
-    write_string(out, "error", "future")?;
+    write_string(out, "error", word)?;
     write_flag(out, "ok", false)?;
     out.end_object()
 }
 
-/// The refusal of a member, with its name.
-pub(crate) fn write_field(out: &mut Writer, name: &Text) -> Result<(), AllocError>
+// One that also names a member.
+fn write_named(out: &mut Writer, code: u64, word: &str, name: &Text) -> Result<(), AllocError>
     requires { IsUtf8 name.now }
-    ensures { OnOk result (AddsValue (field_data name.now) out.old out.new) }
+    ensures { OnOk result (AddsValue (named_refusal code word.now name.now) out.old out.new) }
 {
     out.begin_object()?;
-    write_number(out, "code", 3)?;
-    write_string(out, "error", "field")?;
+    write_number(out, "code", code)?;
+    write_string(out, "error", word)?;
     write_text(out, "name", name.as_bytes())?;
     write_flag(out, "ok", false)?;
     out.end_object()
+}
+
+/// Why a line is refused.
+pub(crate) fn write_refused(out: &mut Writer, why: &Refusal) -> Result<(), AllocError>
+    requires { IsSoundRefusal why.now }
+    ensures { OnOk result (AddsValue (refused_data why.now) out.old out.new) }
+{
+    let code = why.code();
+    let word = why.word();
+    match why.name() {
+        Some(name) => write_named(out, code, word, name),
+        None => match why.count() {
+            Some(count) => write_counted(out, code, word, count),
+            None => write_refusal(out, code, word),
+        },
+    }
 }
 
 /// How far the server is.

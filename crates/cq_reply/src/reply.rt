@@ -1,7 +1,7 @@
 ghost use Rattle.std.specs.Prelude.{◌≡◌};
 ghost use Rattle.std.specs.Arc.{arc_value};
 
-use cq_base::{Lang, Measures, Text};
+use cq_base::{Lang, Measures, Refusal, Text};
 use cq_func::Function;
 use cq_measures::Verdict;
 use std::alloc::Global;
@@ -229,30 +229,8 @@ pub enum Reply {
         done: u64,
         published: u64,
     },
-    /// The line is no JSON object.
-    Json,
-    /// It names no request.
-    Op,
-    /// A member is missing, or not of its form, or does not belong to the request.
-    Field(Text),
-    /// The language is none that is read.
-    Lang,
-    /// The path is none.
-    Path,
-    /// The text has too many bytes.
-    TooMuchText,
-    /// The least length is out of its range.
-    Min,
-    /// The scope is not a path, or is given beside a path.
-    Scope,
-    /// The version that is asked for is above this count of accepted changes.
-    Future(u64),
-    /// There is no file to drop.
-    Absent,
-    /// The limit on kept changes is reached, or 2^60 were accepted.
-    FullChanges,
-    /// The text and all kept texts have more bytes than they may.
-    FullText,
+    /// The line is refused.
+    Refused(Refusal),
     /// This change is not done yet.
     Pending(u64),
     /// The line is too long.

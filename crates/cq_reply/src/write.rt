@@ -8,7 +8,7 @@ use crate::functions::write_functions;
 use crate::groups::write_groups;
 use crate::line::Line;
 use crate::measures::{write_measures, write_verdict};
-use crate::refusal::{write_field, write_future, write_refusal, write_state};
+use crate::refusal::{write_refused, write_state};
 use crate::reply::Reply;
 use crate::short::{Short, fixed};
 use cq_base::{Memory, Text};
@@ -36,18 +36,7 @@ fn write_reply(out: &mut Writer, reply: &Reply) -> Result<(), AllocError>
             done,
             published,
         } => write_state(out, *accepted, *done, *published),
-        Reply::Json => write_refusal(out, 1, "json"),
-        Reply::Op => write_refusal(out, 2, "op"),
-        Reply::Field(name) => write_field(out, name),
-        Reply::Lang => write_refusal(out, 4, "lang"),
-        Reply::Path => write_refusal(out, 5, "path"),
-        Reply::TooMuchText => write_refusal(out, 6, "text"),
-        Reply::Min => write_refusal(out, 7, "min"),
-        Reply::Scope => write_refusal(out, 15, "scope"),
-        Reply::Future(count) => write_future(out, *count),
-        Reply::Absent => write_refusal(out, 9, "absent"),
-        Reply::FullChanges => write_refusal(out, 10, "full-changes"),
-        Reply::FullText => write_refusal(out, 11, "full-text"),
+        Reply::Refused(why) => write_refused(out, why),
         Reply::Change(_) | Reply::Pending(_) | Reply::Long | Reply::Memory => unreachable!(),
     }
 }

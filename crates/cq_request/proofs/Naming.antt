@@ -4,15 +4,16 @@ use Rattle.std.specs.Prelude.{unwrap_or, option_and_then, is_some, IsSome, codes
 use Rattle.serde_json.specs.Data.{Data}
 use Rattle.serde_json.specs.Find.{get, as_object, as_str}
 use Rattle.cq_base.specs.declared.change.Change.{Change}
-use Rattle.cq_request.specs.declared.request.Refusal.{Refusal}
-use Rattle.cq_request.specs.declared.request.Refusal.TheVariants as refusal
+use Rattle.cq_base.specs.declared.refusal.Refusal.{Refusal}
+use Rattle.cq_base.specs.declared.refusal.Refusal.TheVariants as refusal
 use Rattle.cq_request.specs.declared.request.Request.{Request}
 use Rattle.cq_request.specs.declared.request.Request.TheVariants as request
 use Rattle.cq_request.specs.declared.row.Name.TheVariants as name
 use Rattle.cq_request.specs.declared.row.Op.{Op}
 use Rattle.cq_request.specs.declared.row.Op.TheVariants as op
 use Rattle.cq_request.specs.Named.{IsNamed, ChangesAreNamed}
-use Rattle.cq_request.specs.Reading.{unless, lang_named, text_passes, value_refused, why_refused, put_of, drop_of, gate_of, request_of, unless_refused, object_says, value_says, of_spelled}
+use Rattle.cq_base.specs.Tables.{lang_named}
+use Rattle.cq_request.specs.Reading.{unless, text_passes, value_refused, why_refused, put_of, drop_of, gate_of, request_of, unless_refused, object_says, value_says, of_spelled}
 use Rattle.cq_request.specs.Rows.{op_of, fault_of, needed, rule_of, rules_of}
 use Rattle.cq_request.specs.Spelled.{spelled}
 use Rattle.cq_request.specs.Tables.{is_good, bad_field}

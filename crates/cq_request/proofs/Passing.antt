@@ -8,11 +8,12 @@ use Rattle.std.proofs.lemmas.Bool.{and_parts}
 use Rattle.std.proofs.lemmas.Grind.{common_steps}
 use Rattle.serde_json.specs.Data.{Data, Items}
 use Rattle.serde_json.specs.Find.{get, as_array, as_str}
+use Rattle.cq_base.specs.Tables.{lang_named}
 use Rattle.cq_request.specs.declared.row.Op.{Op}
 use Rattle.cq_request.specs.declared.row.Op.TheVariants as op
 use Rattle.cq_request.specs.declared.row.Name.TheVariants as name
-use Rattle.cq_request.specs.declared.request.Refusal.{Refusal}
-use Rattle.cq_request.specs.declared.request.Refusal.TheVariants as refusal
+use Rattle.cq_base.specs.declared.refusal.Refusal.{Refusal}
+use Rattle.cq_base.specs.declared.refusal.Refusal.TheVariants as refusal
 use Rattle.cq_names.specs.Names.{is_path_text}
 use Rattle.cq_request.specs.Text.{is_short}
 use Rattle.cq_request.specs.Members.{items_in, text_at}
@@ -20,7 +21,7 @@ use Rattle.cq_request.specs.Conditions.{condition_of, are_conditions}
 use Rattle.cq_request.specs.Tables.{is_good, bad_field}
 use Rattle.cq_request.specs.Rows.{needed, rule_of, rules_of, fault_of}
 use Rattle.cq_request.specs.Sound.{IsScopeBeside}
-use Rattle.cq_request.specs.Reading.{unless, field_or, lang_named, text_passes, min_passes, scope_passes, value_refused, why_refused, conditions_or}
+use Rattle.cq_request.specs.Reading.{unless, field_or, text_passes, min_passes, scope_passes, value_refused, why_refused, conditions_or}
 
 -- the last two of five tests behind which nothing is refused have passed
 all_passed : (a b c d e : Bool) → unless a refusal.Lang (unless b refusal.Path (unless c refusal.TooMuchText (unless d refusal.Min (unless e refusal.Scope None)))) ≡ None → (d ≡ true) × (e ≡ true)
@@ -38,6 +39,16 @@ none_named (Some n) later none = absurd (cc)
 passed : (chunk : ℕ) (o : Op) (d : Data) → why_refused chunk o d ≡ None → (min_passes chunk d ≡ true) × (scope_passes d ≡ true)
 passed chunk o d accepted =
     all_passed (text_passes (λ name. is_some (lang_named name)) (codes "lang") d) (text_passes is_path_text (codes "path") d) (text_passes is_short (codes "text") d) (min_passes chunk d) (scope_passes d) (none_named (fault_of o d) (value_refused chunk d) accepted).1
+
+third_passed : (a b c : Bool) (later : Option Refusal) → unless a refusal.Lang (unless b refusal.Path (unless c refusal.TooMuchText later)) ≡ None → c ≡ true
+third_passed true true true later none = refl
+third_passed true true false later none = absurd (cc)
+third_passed true false c later none = absurd (cc)
+third_passed false b c later none = absurd (cc)
+
+pub text_passed : (chunk : ℕ) (o : Op) (d : Data) → why_refused chunk o d ≡ None → text_passes is_short (codes "text") d ≡ true
+text_passed chunk o d accepted =
+    third_passed (text_passes (λ name. is_some (lang_named name)) (codes "lang") d) (text_passes is_path_text (codes "path") d) (text_passes is_short (codes "text") d) _ (none_named (fault_of o d) (value_refused chunk d) accepted).1
 
 pub min_passed : (chunk : ℕ) (o : Op) (d : Data) → why_refused chunk o d ≡ None → min_passes chunk d ≡ true
 min_passed chunk o d accepted = (passed chunk o d accepted).0

@@ -1,30 +1,13 @@
 -- The conditions of a gate.
-use Rattle.std.specs.Prelude.{◌&&◌, ◌==◌, ℕ, List, length, Bool, false, nat_le, if◌then◌else◌, Option, Some, None, option_and_then, option_map, unwrap_or, is_some, codes}
+use Rattle.std.specs.Prelude.{◌&&◌, ◌==◌, ℕ, List, length, Bool, false, nat_le, if◌then◌else◌, Option, None, option_and_then, option_map, unwrap_or, is_some, codes}
 use Rattle.std.specs.List.{list_all}
-use Rattle.std.specs.Str.{bytes_eq}
 use Rattle.serde_json.specs.Data.{Data}
 use Rattle.serde_json.specs.Find.{as_array}
-use Rattle.cq_base.specs.declared.change.Metric.{Metric}
-use Rattle.cq_base.specs.declared.change.Metric.TheVariants as metric
 use Rattle.cq_base.specs.declared.change.Compare.{Compare}
-use Rattle.cq_base.specs.declared.change.Compare.TheVariants as compare
 use Rattle.cq_base.specs.declared.change.Condition.{Condition}
+use Rattle.cq_base.specs.declared.measures.Metric.{Metric}
+use Rattle.cq_base.specs.Tables.{metric_named, compare_named}
 use Rattle.cq_request.specs.Members.{member_count, text_at, number_at, items_in}
-
-abbrev pub metric_named : List ℕ → Option Metric
-metric_named name =
-    if bytes_eq name (codes "complexity") then Some metric.Complexity
-    else (if bytes_eq name (codes "duplicated_blocks") then Some metric.DupBlocks
-    else (if bytes_eq name (codes "duplicated_files") then Some metric.DupFiles
-    else (if bytes_eq name (codes "duplicated_lines") then Some metric.DupLines
-    else (if bytes_eq name (codes "duplicated_lines_density") then Some metric.Density
-    else (if bytes_eq name (codes "files") then Some metric.Files
-    else (if bytes_eq name (codes "lines") then Some metric.Lines
-    else (if bytes_eq name (codes "ncloc") then Some metric.Ncloc
-    else None)))))))
-
-abbrev pub compare_named : List ℕ → Option Compare
-compare_named name = if bytes_eq name (codes "GT") then Some compare.Gt else (if bytes_eq name (codes "LT") then Some compare.Lt else None)
 
 abbrev pub metric_at : Data → Option Metric
 metric_at d = option_and_then metric_named (text_at (codes "metric") d)

@@ -4,13 +4,14 @@
 use Rattle.std.specs.Prelude.{◌≡◌, ◌≤◌, ℕ, List, Option, None, IfSome, IsSome, IsTrue, ⊤}
 use Rattle.std.specs.Str.{IsUtf8}
 use Rattle.cq_base.specs.Changes.{IsSoundChange}
+use Rattle.cq_base.specs.Refusals.{IsSoundRefusal}
 use Rattle.cq_request.specs.declared.request.Kind.{Kind}
 use Rattle.cq_request.specs.declared.request.Kind.TheVariants as kind
 use Rattle.cq_request.specs.declared.request.Query.{Query}
 use Rattle.cq_request.specs.declared.request.Request.{Request}
 use Rattle.cq_request.specs.declared.request.Request.TheVariants as request
-use Rattle.cq_request.specs.declared.request.Refusal.{Refusal}
-use Rattle.cq_request.specs.declared.request.Refusal.TheVariants as refusal
+use Rattle.cq_request.specs.declared.request.ReadError.{ReadError}
+use Rattle.cq_request.specs.declared.request.ReadError.TheVariants as error
 use Rattle.cq_names.specs.Names.{is_path_text}
 
 -- the list of files and the verdict are of a whole project, functions of one file
@@ -34,13 +35,6 @@ IsSound chunk (request.Query q) = IsSoundQuery chunk q
 IsSound chunk request.State = ⊤
 
 -- the member that a refusal names is UTF-8
-abbrev pub IsSoundRefusal : Refusal → Type 0
-IsSoundRefusal refusal.Json = ⊤
-IsSoundRefusal refusal.Op = ⊤
-IsSoundRefusal (refusal.Field name) = IsUtf8 name
-IsSoundRefusal refusal.Lang = ⊤
-IsSoundRefusal refusal.Path = ⊤
-IsSoundRefusal refusal.TooMuchText = ⊤
-IsSoundRefusal refusal.Min = ⊤
-IsSoundRefusal refusal.Scope = ⊤
-IsSoundRefusal refusal.Memory = ⊤
+abbrev pub IsSoundError : ReadError → Type 0
+IsSoundError (error.Refused why) = IsSoundRefusal why
+IsSoundError error.Memory = ⊤

@@ -8,32 +8,6 @@ use cq_base::{Compare, Condition, Conditions, Memory, Metric};
 use serde_json::Value;
 use std::alloc::Global;
 
-fn metric_named(name: &str) -> Option<Metric>
-    ensures { result ≡ conditions.metric_named name.now }
-{
-    match name {
-        "complexity" => Some(Metric::Complexity),
-        "duplicated_blocks" => Some(Metric::DupBlocks),
-        "duplicated_files" => Some(Metric::DupFiles),
-        "duplicated_lines" => Some(Metric::DupLines),
-        "duplicated_lines_density" => Some(Metric::Density),
-        "files" => Some(Metric::Files),
-        "lines" => Some(Metric::Lines),
-        "ncloc" => Some(Metric::Ncloc),
-        _ => None,
-    }
-}
-
-fn compare_named(name: &str) -> Option<Compare>
-    ensures { result ≡ conditions.compare_named name.now }
-{
-    match name {
-        "GT" => Some(Compare::Gt),
-        "LT" => Some(Compare::Lt),
-        _ => None,
-    }
-}
-
 /// The condition that a value is, if it is one.
 pub(crate) fn condition_of(value: &Value) -> Option<Condition>
     ensures { result ≡ conditions.condition_of (view value.now) }
@@ -41,8 +15,8 @@ pub(crate) fn condition_of(value: &Value) -> Option<Condition>
     if member_count(value) != 3 {
         return None;
     }
-    let metric = metric_named(text_at(value, "metric")?)?;
-    let op = compare_named(text_at(value, "op")?)?;
+    let metric = Metric::named(text_at(value, "metric")?)?;
+    let op = Compare::named(text_at(value, "op")?)?;
     let error = number_at(value, "error")?;
     Some(Condition { metric, op, error })
 }

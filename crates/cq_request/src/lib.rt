@@ -16,6 +16,6 @@ mod text;
 pub use laws::changes_are_named;
 pub use member::{number_at, taken, text_at};
 pub use reading::{parsed, read_request, read_value};
-pub use request::{Kind, Query, Refusal, Request};
+pub use request::{Kind, Query, ReadError, Request};
 pub use row::{Op, op_of};
 pub use table::{Ruled, fault_in};

@@ -3,7 +3,9 @@ ghost use Rattle.std.specs.Str.{IsUtf8};
 ghost use Rattle.serde_json.specs.View.{view};
 ghost use Rattle.cq_request.specs.Members as members;
 ghost use Rattle.cq_base.specs.Changes.{IsSoundChange};
-ghost use Rattle.cq_request.specs.Sound.{IsSound, IsSoundQuery, IsSoundRefusal};
+ghost use Rattle.cq_base.specs.Refusals.{IsSoundRefusal};
+ghost use Rattle.cq_base.specs.Tables.{lang_named};
+ghost use Rattle.cq_request.specs.Sound.{IsSound, IsSoundQuery, IsSoundError};
 ghost use Rattle.cq_request.specs.Reading as spec;
 ghost use Rattle.cq_request.specs.Spelled.{spelled};
 ghost use Rattle.cq_request.specs.Reading.{UnlessMemory, IsNoJson, value_says, line_says};
@@ -12,32 +14,20 @@ ghost use Rattle.cq_request.specs.Text as text;
 
 use crate::condition::conditions_in;
 use crate::member::{flag_at, list_at, number_at, taken_text, text_at};
-use crate::request::{Kind, Query, Refusal, Request};
+use crate::request::{Kind, Query, ReadError, Request};
 use crate::row::{Op, fault_of, op_of};
 use crate::text::is_short;
-use cq_base::{Change, Conditions, Lang, Memory, Settings, Text};
+use cq_base::{Change, Conditions, Lang, Memory, Refusal, Settings, Text};
 use cq_names::is_path_text;
 use serde_json::Value;
 use std::alloc::Global;
 
-fn lang_named(name: &str) -> Option<Lang>
-    ensures { result ≡ spec.lang_named name.now }
-{
-    match name {
-        "any" => Some(Lang::Any),
-        "go" => Some(Lang::Go),
-        "c" => Some(Lang::C),
-        "java" => Some(Lang::Java),
-        _ => None,
-    }
-}
-
 fn lang_passes(value: &Value) -> bool
     ensures { result ≡ spec.text_passes
-        (λ name. is_some (spec.lang_named name)) (codes "lang") (view value.now) }
+        (λ name. is_some (lang_named name)) (codes "lang") (view value.now) }
 {
     match text_at(value, "lang") {
-        Some(name) => lang_named(name).is_some(),
+        Some(name) => Lang::named(name).is_some(),
         None => true,
     }
 }
@@ -160,7 +150,7 @@ fn lang_or(value: &Value) -> Lang
     ensures { result ≡ spec.lang_or (view value.now) }
 {
     match text_at(value, "lang") {
-        Some(name) => lang_named(name).unwrap_or(Lang::Any),
+        Some(name) => Lang::named(name).unwrap_or(Lang::Any),
         None => Lang::Any,
     }
 }
@@ -262,25 +252,25 @@ fn request_of(alloc: Global, settings: &Settings, op: Op, value: Value) -> Resul
 
 /// The request that a value is, or why it is refused. `Json` comes exactly if it is not an object; the other refusals
 /// come in the order of the enum. The value's text is moved into the request.
-pub fn read_value(alloc: Global, settings: &Settings, value: Value) -> Result<Request, Refusal>
+pub fn read_value(alloc: Global, settings: &Settings, value: Value) -> Result<Request, ReadError>
     ensures says { UnlessMemory result (value_says settings.now.chunk (view value)) }
     ensures sound { IfOk result (IsSound settings.now.chunk) }
-    ensures named { IfErr result IsSoundRefusal }
+    ensures named { IfErr result IsSoundError }
 {
     if !value.is_object() {
-        return Err(Refusal::Json);
+        return Err(ReadError::Refused(Refusal::Json));
     }
     let Some(op) = op_of(&value) else {
-        return Err(Refusal::Op);
+        return Err(ReadError::Refused(Refusal::Op));
     };
     match why_refused(alloc, settings, op, &value)? {
-        Some(refusal) => Err(refusal),
+        Some(refusal) => Err(ReadError::Refused(refusal)),
         None => Ok(request_of(alloc, settings, op, value)?),
     }
 }
 
 /// The value that a line spells. `Json` comes exactly if `serde_json` gives none for a cause other than memory.
-pub fn parsed(alloc: Global, line: &[u8]) -> Result<Value, Refusal>
+pub fn parsed(alloc: Global, line: &[u8]) -> Result<Value, ReadError>
     ensures spelled { IfOk result (λ v. spelled line.now ≡ Some (view v)) }
     ensures refused { IfErr result (IsNoJson line.now) }
 {
@@ -288,22 +278,22 @@ pub fn parsed(alloc: Global, line: &[u8]) -> Result<Value, Refusal>
         Ok(value) => Ok(value),
         Err(error) => {
             if error.is_memory() {
-                return Err(Refusal::Memory);
+                return Err(ReadError::Memory);
             }
-            Err(Refusal::Json)
+            Err(ReadError::Refused(Refusal::Json))
         }
     }
 }
 
 /// The request that a line spells, or why it is refused: `Json` exactly if `serde_json` gives no value for it, or one
 /// that is not an object.
-pub fn read_request(alloc: Global, settings: &Settings, line: &[u8]) -> Result<Request, Refusal>
+pub fn read_request(alloc: Global, settings: &Settings, line: &[u8]) -> Result<Request, ReadError>
     ensures says { UnlessMemory result (line_says settings.now.chunk line.now) }
     ensures sound { IfOk result (IsSound settings.now.chunk) }
-    ensures named { IfErr result IsSoundRefusal }
+    ensures named { IfErr result IsSoundError }
 {
     match parsed(alloc, line) {
         Ok(value) => read_value(alloc, settings, value),
-        Err(refusal) => Err(refusal),
+        Err(error) => Err(error),
     }
 }

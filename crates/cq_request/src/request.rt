@@ -1,6 +1,6 @@
 ghost use Rattle.std.specs.Prelude.{◌≡◌};
 
-use cq_base::{Change, Memory, Text};
+use cq_base::{Change, Memory, Refusal, Text};
 
 /// What a query shows.
 #[derive(Clone, Copy, Debug, PartialEq, Eq)]
@@ -41,35 +41,21 @@ pub enum Request {
     State,
 }
 
-/// Why a line is refused; the first of these that applies.
+/// Why no request was read.
 #[derive(Debug, Drop)]
-pub enum Refusal {
-    /// It is no JSON object.
-    Json,
-    /// It names no request.
-    Op,
-    /// This member is missing or not of its form, or does not belong to the request.
-    Field(Text),
-    /// The language is none that is read.
-    Lang,
-    /// The path is none.
-    Path,
-    /// The text has more than 1,048,576 bytes.
-    TooMuchText,
-    /// The least length is out of its range.
-    Min,
-    /// The scope is not a path, or is given beside a path.
-    Scope,
+pub enum ReadError {
+    /// The line is refused.
+    Refused(Refusal),
     /// Memory was refused.
     Memory,
 }
 
-impl From<Memory> for Refusal {
-    ghost use Rattle.cq_request.specs.declared.request.Refusal.TheVariants as refusal;
+impl From<Memory> for ReadError {
+    ghost use Rattle.cq_request.specs.declared.request.ReadError.TheVariants as error;
 
-    ghost from_gives = { λ _ e. e ≡ refusal.Memory };
+    ghost from_gives = { λ _ e. e ≡ error.Memory };
 
-    fn from(_: Memory) -> Refusal {
-        Refusal::Memory
+    fn from(_: Memory) -> ReadError {
+        ReadError::Memory
     }
 }

@@ -5,7 +5,7 @@ use Rattle.std.specs.List.{AllByRecursion}
 use Rattle.std.proofs.lemmas.List.Sums.{fold_push, fold-append}
 use Rattle.cq_base.specs.declared.settings.Settings.{Settings}
 use Rattle.cq_history.specs.declared.event.Event.{Event}
-use Rattle.cq_history.specs.declared.event.Event.TheVariants.{Ask, Took, Back, Done}
+use Rattle.cq_history.specs.declared.event.Event.TheVariants.{Took}
 use Rattle.cq_history.specs.State.{State, Slot, state, slot_of, no_slot, own, view_of, is_done, IsAccepted, IsDone, IsUndone, IsTakenBy}
 use Rattle.cq_history.specs.Lasts.{holder_after, holder_in}
 use Rattle.cq_history.specs.Lawful.{Lawful}

@@ -1,5 +1,5 @@
 -- Who has a change, by its own events.
-use Rattle.std.proofs.Common.{◌≡◌, ℕ, ◌+◌, ◌-◌, ◌<◌, Bool, true, false, not, cond, List, [], ◌∷◌, ◌++◌, length, fold, get_or, Option, Some, None, refl, sym, ap, ◌∙◌, subst, arith, append_assoc, append-nil, true≢false}
+use Rattle.std.proofs.Common.{◌≡◌, ℕ, ◌+◌, ◌-◌, ◌<◌, Bool, true, false, not, cond, List, [], ◌∷◌, ◌++◌, length, fold, get_or, Option, Some, None, refl, sym, ap, ◌∙◌, subst, arith, append_assoc}
 use Rattle.std.specs.Prelude.{◌==◌, ◌&&◌, is_none}
 use Rattle.std.specs.List.{position_or_len}
 use Rattle.std.proofs.lemmas.List.Sums.{fold_push, prefix_len_stops}
@@ -8,7 +8,7 @@ use Rattle.cq_history.specs.declared.event.Event.{Event}
 use Rattle.cq_history.specs.declared.event.Event.TheVariants.{Accept, Ask, Took, Back, Done, Publish, Open, Shut, Floor}
 use Rattle.cq_history.specs.State.{State, Slot, state, slot_of, no_slot, first_free, own, is_by, maker, is_done, is_free, IsAccepted}
 use Rattle.cq_history.specs.Lasts.{holder_after, holder_in}
-use Rattle.cq_history.specs.Lawful.{Allowed, Lawful}
+use Rattle.cq_history.specs.Lawful.{Lawful}
 use Rattle.cq_history.proofs.Holders.{took_last}
 use Rattle.cq_history.proofs.Numbers.{same_number, other_number}
 use Rattle.cq_history.proofs.States.{Lawful-prefix, Lawful_last}

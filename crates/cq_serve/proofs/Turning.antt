@@ -1,5 +1,5 @@
 -- A turn, call by call.
-use Rattle.std.proofs.Common.{◌≡◌, ◌⊎◌, ℕ, ◌<◌, Bool, true, false, List, [], ◌∷◌, ◌++◌, refl, sym, ap, ◌∙◌, subst, append-nil, inl, inr}
+use Rattle.std.proofs.Common.{◌≡◌, ℕ, Bool, true, false, List, [], ◌∷◌, ◌++◌, refl, sym, subst, append-nil, inl, inr}
 use Rattle.std.specs.Arc.{arc_value}
 use Rattle.std.specs.Bool.{OnTrue, OnFalse}
 use Rattle.cq_base.specs.declared.lang.Lang.{Lang}
@@ -11,16 +11,15 @@ use Rattle.cq_session.proofs.Working.{job_work}
 use Rattle.cq_base.specs.declared.settings.Settings.{Settings}
 use Rattle.cq_history.specs.declared.event.Event.{Event}
 use Rattle.cq_history.specs.declared.event.Event.TheVariants as event
-use Rattle.cq_history.specs.State.{State, state, slot_of, IsAccepted, IsDone, IsUndone, IsTakenBy}
+use Rattle.cq_history.specs.State.{state, slot_of, IsAccepted, IsDone, IsUndone, IsTakenBy}
 use Rattle.cq_history.specs.Lawful.{Lawful}
 use Rattle.cq_hub.specs.Hubs.{Grows, Calls, Extends, IsPublication, Never}
-use Rattle.cq_hub.specs.Says.{IsNoneFree}
 use Rattle.cq_hub.proofs.Following.{done_then}
 use Rattle.cq_hub.proofs.Growing.{grows_then, grows_own, grows_event, grows_may}
 use Rattle.cq_hub.proofs.Staying.{accepted_stays}
 use Rattle.cq_hub.specs.declared.hub.Hub.{Ghosts}
-use Rattle.cq_serve.specs.Turns.{AtEase, Passes, IsTurn, Eases, Asks}
-use Rattle.cq_serve.specs.declared.answers.Turn.TheVariants.{Idle, Worked, Late, GaveBack, Memory}
+use Rattle.cq_serve.specs.Turns.{Passes, IsTurn, Eases, Asks}
+use Rattle.cq_serve.specs.declared.answers.Turn.TheVariants.{Worked, GaveBack}
 use Rattle.cq_serve.proofs.Easing.{eases, stays_done, done_since, took_done, took_given}
 
 module _ {H W P : Type 0} (of : Ghosts H W P) (hub : H) (set : Settings) (lawful : (pass : P) (c : ℕ) (h : List Event) → of.Stands hub pass c h → Lawful set (of.callers hub) h) (c : ℕ) (h : List Event) where

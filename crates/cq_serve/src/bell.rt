@@ -8,6 +8,12 @@ struct Rings {
 }
 
 /// A bell on which workers sleep. Whoever heard how often it had rung sleeps until it rings again, or until the end.
+///
+/// It rings after each accepted change, and wakes one sleeper, which is enough for that change. A worker first asks how
+/// often the bell has rung, then looks for a change, and sleeps only if it found none. If the bell rang after it asked, it
+/// does not fall asleep. If the bell rang before, the worker looked after the ring, so what it left was taken already. And
+/// whoever is woken takes changes until none is left. A worker that was refused memory gives its change back and sleeps
+/// too. What it left waits for the next ring, or for a query that finishes works.
 #[derive(Drop)]
 pub struct Bell {
     rings: Mutex<Rings>,
@@ -25,11 +31,12 @@ impl Bell {
         }
     }
 
+    /// It rings, and one of those who sleep wakes.
     pub fn ring<Q: Wait>(&self, rt: &Q) {
         let mut rings = self.rings.lock(rt);
         rings.count = rings.count.wrapping_add(1);
         drop(rings);
-        self.rung.notify_all();
+        self.rung.notify_one();
     }
 
     /// Nobody sleeps from now on.

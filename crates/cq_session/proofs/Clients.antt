@@ -1,12 +1,10 @@
 -- Whom a session has met.
 use Rattle.std.proofs.Common.{◌≡◌, ℕ, Bool, true, false, List, [], ◌∷◌, ◌++◌, Option, Some, None, Result, Ok, Err, refl, sym, ap, ◌∙◌, subst, true≢false, inl, inr}
-use Rattle.cq_answer.specs.Refusals.{refused_as}
 use Rattle.cq_base.specs.declared.settings.Settings.{Settings}
 use Rattle.cq_history.specs.declared.event.Event.{Event}
 use Rattle.cq_reply.specs.declared.reply.Reply.{Reply}
 use Rattle.cq_reply.specs.declared.reply.Reply.TheVariants as reply
-use Rattle.cq_request.specs.declared.request.Refusal.{Refusal}
-use Rattle.cq_request.specs.declared.request.Refusal.TheVariants as refusal
+use Rattle.cq_base.specs.declared.refusal.Refusal.{Refusal}
 use Rattle.cq_request.specs.declared.request.Request.{Request}
 use Rattle.cq_talk.specs.Said.{Said, said, TooLong, Read}
 use Rattle.cq_talk.specs.Talk.{AnswersBy}
@@ -55,19 +53,8 @@ module _ (chunk : ℕ) where
 unknown_memory : (r : Reply) → r ≡ reply.Memory → is_known r ≡ true → ⊥
 unknown_memory r is known = true≢false (sym known ∙ ap is_known is)
 
-unknown_json : (r : Reply) → r ≡ reply.Json → is_known r ≡ true → ⊥
-unknown_json r is known = true≢false (sym known ∙ ap is_known is)
-
-refused_known : (why : Refusal) (r : Reply) → r ≡ refused_as why → is_known r ≡ true → IsObject (Read (Err why))
-refused_known refusal.Json r is known = absurd (unknown_json r is known)
-refused_known refusal.Op r is known = tt
-refused_known (refusal.Field name) r is known = tt
-refused_known refusal.Lang r is known = tt
-refused_known refusal.Path r is known = tt
-refused_known refusal.TooMuchText r is known = tt
-refused_known refusal.Min r is known = tt
-refused_known refusal.Scope r is known = tt
-refused_known refusal.Memory r is known = tt
+refused_known : (why : Refusal) (r : Reply) → r ≡ reply.Refused why → is_known r ≡ true → IsObject (Read (Err why))
+refused_known why r is known = sym (ap is_known is) ∙ known
 
 module _ (set : Settings) (callers : ℕ) (alone : Type 0) (c by seen : ℕ) (h after : List Event) where
   -- a reply that shows that the line is a JSON object

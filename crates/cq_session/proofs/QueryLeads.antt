@@ -21,6 +21,7 @@ use Rattle.cq_session.proofs.LineCosts.{spends_asking, spends_shown, spends_give
 use Rattle.cq_session.proofs.Spending.{costs_none, costs_same}
 use Rattle.cq_talk.proofs.Leading.{lead_weaker}
 use Rattle.cq_talk.proofs.Queries.{AskFacts, ask_facts, floor_waiting, worked, worked_alone, waited}
+use Rattle.cq_base.specs.declared.refusal.Refusal.TheVariants as refusal
 
 module _ {S P : Type 0} (Stands : S → P → ℕ → List Event → Type 0) (set : Settings) (callers : ℕ) (alone : Type 0) (hub : S) (c seen : ℕ) (q : Query) (h : List Event) (one : P) (r : Asked)
     (call : Calls Stands alone Never c hub one h (Ask c ∷ []) (λ mid. r ≡ asked_of (state callers mid))) (closed : IsClosed callers c h) (named : seen ≤ length (accepted h)) where
@@ -41,12 +42,12 @@ module _ {S P : Type 0} (Stands : S → P → ℕ → List Event → Type 0) (se
   says = Read (Ok (request.Query q))
 
   pub is_future : r.accepted < q.at → (reads asked asked_now : ℕ) → asked_now ≡ asked
-      → Leads Stands callers c hub one (AtCost set c (Read (Ok (request.Query q))) (reply.Future r.accepted) (counted reads reads asked asked_now) h (IsAnswered set callers alone c seen h q (reply.Future r.accepted)))
+      → Leads Stands callers c hub one (AtCost set c (Read (Ok (request.Query q))) (reply.Refused (refusal.Future r.accepted)) (counted reads reads asked asked_now) h (IsAnswered set callers alone c seen h q (reply.Refused (refusal.Future r.accepted))))
   is_future above reads asked asked_now same = record {
     after = then;
     stands = call.stands;
     closed = facts.closed;
-    holds = (inl (record { asks = asks; above = let is = facts.accepted_is in omega (arith, above, is); reply_is = ap reply.Future facts.accepted_is }), spends_asking set alone c reads asked asked_now same (AreViewings says (reply.Future r.accepted)) (inl refl) h then asks);
+    holds = (inl (record { asks = asks; above = let is = facts.accepted_is in omega (arith, above, is); reply_is = ap (λ (n : ℕ). reply.Refused (refusal.Future n)) facts.accepted_is }), spends_asking set alone c reads asked asked_now same (AreViewings says (reply.Refused (refusal.Future r.accepted))) (inl refl) h then asks);
   }
 
   pub is_pending : q.at ≤ r.accepted → q.finish ≡ false → r.done < max seen q.at → (reads asked asked_now : ℕ) → asked_now ≡ asked
@@ -112,21 +113,21 @@ module _ {S P : Type 0} (Stands : S → P → ℕ → List Event → Type 0) (se
       help_given_up led reads asked asked_now same = lead_weaker Stands callers c hub two _ _ led (λ later helps.
           given_up_at_cost None _ later (worked_alone set callers alone c seen q h call.mid call.others slots_within works facts.named r.accepted facts.accepted_is _ later helps) tt (costs_none set (accepted later) reads asked asked_now same))
 
-    module _ (waits : q.finish ≡ false) (least : max seen q.at ≤ r.done) (three : P) where
-      ready_least : r.done ≤ ready (state callers call.mid)
-      ready_least = let is = facts.done_is in omega (arith, is)
+    module _ (waits : q.finish ≡ false) (to : ℕ) (least : max seen q.at ≤ to) (most : to ≤ r.done) (three : P) where
+      ready_least : to ≤ ready (state callers call.mid)
+      ready_least = let is = facts.done_is in omega (arith, most, is)
 
-      pub waited_shown : (reply : Reply) (reads reads_now asked asked_mid asked_now : ℕ) → asked_mid ≡ asked → Leads Stands callers c hub three (ShowsAt set callers alone c r.done q (counted reads reads_now asked_mid asked_now) reply then)
+      pub waited_shown : (reply : Reply) (reads reads_now asked asked_mid asked_now : ℕ) → asked_mid ≡ asked → Leads Stands callers c hub three (ShowsAt set callers alone c to q (counted reads reads_now asked_mid asked_now) reply then)
           → Leads Stands callers c hub three (AtCost set c (Read (Ok (request.Query q))) reply (counted reads reads_now asked asked_now) h (IsAnswered set callers alone c seen h q reply))
       waited_shown reply reads reads_now asked asked_mid asked_now same led = lead_weaker Stands callers c hub three _ _ led (λ later shown. shown_at_cost reply _ later (record {
         version = shown.version;
-        served = waited set callers alone c seen q h call.mid call.others slots_within waits r.done least ready_least later (Some shown.version) shown.views;
+        served = waited set callers alone c seen q h call.mid call.others slots_within waits to least ready_least later (Some shown.version) shown.views;
         within = shown.within;
         shows = shown.shows;
         swept = shown.swept;
       }) (costs_same set (accepted later) _ reads reads_now asked_mid asked_now asked asked_now (sym same) refl shown.costs))
 
-      pub waited_given_up : (reads reads_now asked asked_mid asked_now : ℕ) → asked_mid ≡ asked → Leads Stands callers c hub three (ViewsOrNot set alone c r.done q (counted reads reads_now asked_mid asked_now) then)
+      pub waited_given_up : (reads reads_now asked asked_mid asked_now : ℕ) → asked_mid ≡ asked → Leads Stands callers c hub three (ViewsOrNot set alone c to q (counted reads reads_now asked_mid asked_now) then)
           → Leads Stands callers c hub three (AtCost set c (Read (Ok (request.Query q))) reply.Memory (counted reads reads_now asked asked_now) h (IsGivenUp set callers alone c seen h (Read (Ok (request.Query q)))))
       waited_given_up reads reads_now asked asked_mid asked_now same led = lead_weaker Stands callers c hub three _ _ led (λ later shown.
-          given_up_at_cost shown.view _ later (waited set callers alone c seen q h call.mid call.others slots_within waits r.done least ready_least later shown.view shown.views) shown.within (costs_same set (accepted later) _ reads reads_now asked_mid asked_now asked asked_now (sym same) refl shown.costs))
+          given_up_at_cost shown.view _ later (waited set callers alone c seen q h call.mid call.others slots_within waits to least ready_least later shown.view shown.views) shown.within (costs_same set (accepted later) _ reads reads_now asked_mid asked_now asked asked_now (sym same) refl shown.costs))

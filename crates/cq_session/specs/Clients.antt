@@ -2,8 +2,8 @@
 use Rattle.std.specs.Prelude.{◌≡◌, ◌&&◌, not, ℕ, Bool, true, false, if◌then◌else◌, List, [], ◌∷◌, length, Option, Some, None, Ok, Err}
 use Rattle.cq_reply.specs.declared.reply.Reply.{Reply}
 use Rattle.cq_reply.specs.declared.reply.Reply.TheVariants as reply
-use Rattle.cq_request.specs.declared.request.Refusal.{Refusal}
-use Rattle.cq_request.specs.declared.request.Refusal.TheVariants as refusal
+use Rattle.cq_base.specs.declared.refusal.Refusal.{Refusal}
+use Rattle.cq_base.specs.declared.refusal.Refusal.TheVariants as refusal
 use Rattle.cq_talk.specs.Said.{Said, said, TooLong, Read}
 use Rattle.cq_session.specs.declared.met.Met.{Met}
 use Rattle.cq_session.specs.declared.met.Met.TheVariants as met
@@ -11,26 +11,19 @@ use Rattle.cq_session.specs.declared.stop.Stop.{Stop}
 use Rattle.cq_session.specs.declared.stop.Stop.TheVariants as stop
 
 -- a line that is refused for this is a JSON object
-abbrev pub IsObjectRefused : Refusal → Type 0
-IsObjectRefused refusal.Json = ⊥
-IsObjectRefused refusal.Op = Unit {0}
-IsObjectRefused (refusal.Field name) = Unit {0}
-IsObjectRefused refusal.Lang = Unit {0}
-IsObjectRefused refusal.Path = Unit {0}
-IsObjectRefused refusal.TooMuchText = Unit {0}
-IsObjectRefused refusal.Min = Unit {0}
-IsObjectRefused refusal.Scope = Unit {0}
-IsObjectRefused refusal.Memory = Unit {0}
+abbrev pub is_object : Refusal → Bool
+is_object refusal.Json = false
+is_object _ = true
 
 -- the line was read, and is a JSON object
 abbrev pub IsObject : Said → Type 0
 IsObject TooLong = ⊥
 IsObject (Read (Ok says)) = Unit {0}
-IsObject (Read (Err why)) = IsObjectRefused why
+IsObject (Read (Err why)) = is_object why ≡ true
 
 -- the reply shows that the line was read, and is a JSON object
 abbrev pub is_known : Reply → Bool
-is_known reply.Json = false
+is_known (reply.Refused why) = is_object why
 is_known reply.Long = false
 is_known reply.Memory = false
 is_known _ = true

@@ -12,14 +12,13 @@ ghost use Rattle.cq_session.specs.Passes.{Begins, GivesUp, HasAccepted, HasAnswe
 use crate::helping::help;
 use crate::viewing::view_reply;
 use crate::{Keeper, NoLog, Server};
-use cq_answer::refused_as;
-use cq_base::{Change, Memory, Steps};
+use cq_base::{Change, Memory, Refusal, Steps};
 use cq_board::Refused;
 use cq_hub::Hub;
 use cq_io::Gate;
 use cq_keep::Unkept;
 use cq_reply::Reply;
-use cq_request::{Query, Request, read_request};
+use cq_request::{Query, ReadError, Request, read_request};
 use cq_shard::Indexed;
 use cq_work::Work;
 use std::sync::ledger::Ledger;
@@ -52,9 +51,11 @@ fn change_reply<W: Indexed, H: Hub<W>, P: Keeper<W, H>, G: Gate>(
             server.gate.after_accept(number);
             Ok(Some(Reply::Change(number)))
         }
-        Err(Unkept::Refused(Refused::Absent)) => Ok(Some(Reply::Absent)),
-        Err(Unkept::Refused(Refused::FullChanges)) => Ok(Some(Reply::FullChanges)),
-        Err(Unkept::Refused(Refused::FullText)) => Ok(Some(Reply::FullText)),
+        Err(Unkept::Refused(Refused::Absent)) => Ok(Some(Reply::Refused(Refusal::Absent))),
+        Err(Unkept::Refused(Refused::FullChanges)) => {
+            Ok(Some(Reply::Refused(Refusal::FullChanges)))
+        }
+        Err(Unkept::Refused(Refused::FullText)) => Ok(Some(Reply::Refused(Refusal::FullText))),
         Err(Unkept::Refused(Refused::Memory)) => Err(Memory),
         Err(Unkept::Broken) => Ok(None),
     }
@@ -78,6 +79,16 @@ fn state_reply<W: Indexed, H: Hub<W>, P: Keeper<W, H>, G>(
         done: asked.done,
         published: asked.published,
     })
+}
+
+// The version up to which a query publishes that does no works. If all changes are done, these are all of them. If not,
+// they are those of its floor: what others have uploaded takes long to publish, and those who wait for it do that.
+fn without_works(floor: u64, done: u64, accepted: u64) -> u64
+    requires { floor ≤ done }
+    ensures recent { floor ≤ result }
+    ensures done { result ≤ done }
+{
+    if done == accepted { done } else { floor }
 }
 
 // The reply to a query whose floor is at least `seen`; none if a line could not be kept, and then nothing was done. After an
@@ -108,7 +119,7 @@ fn kept_query_reply<R: Threads + Sync, L: Ledger, H: Hub<Work<L>>, P: Keeper<Wor
         return Ok(None);
     };
     if query.at > asked.accepted {
-        return Ok(Some(Reply::Future(asked.accepted)));
+        return Ok(Some(Reply::Refused(Refusal::Future(asked.accepted))));
     }
     if query.finish {
         return match help(server, asked.done, asked.accepted, pass) {
@@ -119,10 +130,12 @@ fn kept_query_reply<R: Threads + Sync, L: Ledger, H: Hub<Work<L>>, P: Keeper<Wor
             Err(Memory) => Err(Memory),
         };
     }
-    if seen.max(query.at) > asked.done {
+    let floor = seen.max(query.at);
+    if floor > asked.done {
         return Ok(Some(Reply::Pending(asked.done + 1)));
     }
-    match view_reply(rt, server, query, asked.done, pass, steps) {
+    let to = without_works(floor, asked.done, asked.accepted);
+    match view_reply(rt, server, query, to, pass, steps) {
         Ok(reply) => Ok(Some(reply)),
         Err(Memory) => Err(Memory),
     }
@@ -191,9 +204,7 @@ pub(crate) fn reply_to<
         Ok(Request::Change(change)) => change_reply(server, change, line, pass),
         Ok(Request::Query(query)) => kept_query_reply(rt, server, &query, seen, pass, steps),
         Ok(Request::State) => Ok(state_reply(server, pass)),
-        Err(refusal) => match refused_as(refusal) {
-            Ok(reply) => Ok(Some(reply)),
-            Err(Memory) => Err(Memory),
-        },
+        Err(ReadError::Refused(refusal)) => Ok(Some(Reply::Refused(refusal))),
+        Err(ReadError::Memory) => Err(Memory),
     }
 }

@@ -5,13 +5,13 @@ ghost use Rattle.cq_reply.specs.Lines.{bytes_of};
 ghost use Rattle.cq_reply.specs.Written.{line_of as line_in};
 ghost use Rattle.cq_reply.specs.declared.reply.Reply.TheVariants as reply;
 ghost use Rattle.cq_talk.specs.Replies.{named as named_in};
-ghost use Rattle.cq_session.specs.Clients.{is_known as known_in};
+ghost use Rattle.cq_session.specs.Clients.{is_known as known_in, is_object as object_by};
 ghost use Rattle.cq_session.specs.Keeping.{IsBroken};
 ghost use Rattle.cq_session.specs.Passes.{HasAccepted, HasLine, HasWaited};
 
 use crate::answering::reply_to;
 use crate::{Keeper, Server};
-use cq_base::{Memory, Steps};
+use cq_base::{Memory, Refusal, Steps};
 use cq_hub::Hub;
 use cq_io::Gate;
 use cq_reply::{Line, Reply, Short, fixed, line_of};
@@ -35,12 +35,22 @@ fn named(reply: &Reply) -> u64
     }
 }
 
+// Whether a line that is refused for this is a JSON object.
+fn is_object(why: &Refusal) -> bool
+    ensures { result ≡ object_by why.now }
+{
+    match why {
+        Refusal::Json => false,
+        _ => true,
+    }
+}
+
 // Whether a reply shows that its line was read, and is a JSON object.
 fn is_known(reply: &Reply) -> bool
     ensures { result ≡ known_in reply.now }
 {
     match reply {
-        Reply::Json => false,
+        Reply::Refused(why) => is_object(why),
         Reply::Long => false,
         Reply::Memory => false,
         _ => true,

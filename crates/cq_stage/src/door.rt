@@ -1,5 +1,4 @@
 ghost use Rattle.std.specs.Prelude.{◌≡◌, None, Some};
-ghost use Rattle.std.specs.VecDeque.{deque_len};
 ghost use Rattle.cq_stage.specs.Doors.{bound_of, left_of, door_faults};
 
 use crate::calls::Calls;

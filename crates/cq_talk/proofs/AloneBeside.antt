@@ -21,9 +21,10 @@ use Rattle.cq_talk.specs.Causes.{cause, change_told}
 use Rattle.cq_talk.specs.Alone.{Walk, no_walk, done_with, changed, IsAnsweredAlone, IsReplyAlone, IsAloneUpToMemory}
 use Rattle.cq_talk.specs.Beside.{Known, nothing_known, known_then, with_told, IsPut, IsChangedBeside, IsReplyBeside, IsBeside}
 use Rattle.cq_talk.specs.Laws.{IsNoMemory}
-use Rattle.cq_talk.proofs.BesideTalk.{none_told, no_version, no_answer}
+use Rattle.cq_talk.proofs.BesideTalk.{none_told}
 use Rattle.cq_talk.proofs.Rooming.{accepted_beside, refused_beside}
 use Rattle.cq_talk.proofs.Shown.{shown_version, shown_answered}
+use Rattle.cq_base.specs.declared.refusal.Refusal.TheVariants as refusal
 
 -- what a user knows, and what is walked: the first change that isn't done is a put
 pub record Agrees (w : Walk) (k : Known) : Type 0 where
@@ -111,7 +112,7 @@ module _ (set : Settings) (w : Walk) (k : Known) (agrees : Agrees w k) where
       stays later (with_told k.changes change r) (version_in r) (answered_in r) is (ap (with_told k.changes change) told ∙ none.0) (ap version_in told ∙ none.1) (ap answered_in told ∙ none.2)
 
   answers : (q : Query) (r : Reply) (later : Walk) → IsAnsweredAlone set w q r later → Turned set k (Read (Ok (request.Query q))) r later
-  answers q r later (inl is) = record { is = inl (omega (arith, is.0, long), is.1 ∙ ap reply.Future long); agrees = stays later k.changes (version_in r) (answered_in r) is.2 refl (ap version_in is.1) (ap answered_in is.1) }
+  answers q r later (inl is) = record { is = inl (omega (arith, is.0, long), is.1 ∙ ap (λ (n : ℕ). reply.Refused (refusal.Future n)) long); agrees = stays later k.changes (version_in r) (answered_in r) is.2 refl (ap version_in is.1) (ap answered_in is.1) }
   answers q r later (inr (inl is)) = record {
     is = inr (inl (record {
       within = omega (arith, is.0, long);
@@ -144,7 +145,7 @@ module _ (set : Settings) (w : Walk) (k : Known) (agrees : Agrees w k) where
 
   turned : (l : Said) (r : Reply) (later : Walk) → IsReplyAlone set w l r later → Turned set k l r later
   turned TooLong r later is = record { is = is.0; agrees = stays later k.changes (version_in r) (answered_in r) is.1 refl (ap version_in is.0) (ap answered_in is.0) }
-  turned (Read (Err why)) r later is = record { is = is.0; agrees = stays later k.changes (version_in r) (answered_in r) is.1 refl (ap version_in is.0 ∙ no_version why) (ap answered_in is.0 ∙ no_answer why) }
+  turned (Read (Err why)) r later is = record { is = is.0; agrees = stays later k.changes (version_in r) (answered_in r) is.1 refl (ap version_in is.0) (ap answered_in is.0) }
   turned (Read (Ok (request.Change change))) r later is = record {
     is = said_beside change r (cause set k.changes w.floor change) refl (is.0 ∙ ap (λ cs. change_told cs (cause set cs w.floor change)) agrees.changes);
     agrees = changes change r later (cause set w.changes w.floor change) is.0 is.1;

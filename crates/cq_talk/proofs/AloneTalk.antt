@@ -33,6 +33,7 @@ use Rattle.cq_talk.proofs.Served.{served_accept_none, served_grows, served_publi
 use Rattle.cq_talk.proofs.Shown.{shown_named}
 use Rattle.cq_talk.proofs.Talking.{published_few}
 use Rattle.cq_talk.proofs.Unmade.{none_accepted}
+use Rattle.cq_base.specs.declared.refusal.Refusal.TheVariants as refusal
 
 -- what was named before is at most the floor
 pub floor_seen : (n : ℕ) (q : Query) (s : State) → n ≤ floor_of n q s
@@ -173,7 +174,7 @@ module _ (set : Settings) (callers c seen : ℕ) (h : List Event) (k : Walk) (m 
   answers_alone q r later law (inl is) =
       let same = asks_same later is.asks in
       let at_ask : length (state callers is.asks.mid).slots ≡ length k.changes = ap (λ (t : State). length t.slots) same.0 ∙ number in
-      stay (Read (Ok (request.Query q))) r (state callers later) same.1 (inl (omega (arith, is.above, at_ask), is.reply_is ∙ ap reply.Future at_ask, refl))
+      stay (Read (Ok (request.Query q))) r (state callers later) same.1 (inl (omega (arith, is.above, at_ask), is.reply_is ∙ ap (λ (n : ℕ). reply.Refused (refusal.Future n)) at_ask, refl))
   answers_alone q r later law (inr (inl is)) =
       let same = asks_same later is.asks in
       let at_ask : length (state callers is.asks.mid).slots ≡ length k.changes = ap (λ (t : State). length t.slots) same.0 ∙ number in

@@ -17,11 +17,9 @@ use Rattle.cq_board.specs.declared.answers.Refused.{Refused}
 use Rattle.cq_board.specs.declared.answers.Refused.TheVariants as refused
 use Rattle.cq_request.specs.declared.request.Query.{Query}
 use Rattle.cq_request.specs.declared.request.Request.TheVariants as request
-use Rattle.cq_request.specs.declared.request.Refusal.{Refusal}
-use Rattle.cq_request.specs.declared.request.Refusal.TheVariants as refusal
 use Rattle.cq_reply.specs.declared.reply.Reply.{Reply}
 use Rattle.cq_reply.specs.declared.reply.Reply.TheVariants as reply
-use Rattle.cq_answer.specs.Refusals.{refused_as, cause_told}
+use Rattle.cq_answer.specs.Refusals.{cause_told}
 use Rattle.cq_answer.specs.Reply.{IsReply}
 use Rattle.cq_talk.specs.Said.{Said, TooLong, Read, WasRead}
 use Rattle.cq_talk.specs.Replies.{named, version_in, answered_in}
@@ -37,6 +35,7 @@ use Rattle.cq_talk.proofs.AloneTalk.{floor_seen, given_read}
 use Rattle.cq_talk.proofs.Served.{asked_grows, served_published}
 use Rattle.cq_talk.proofs.Shown.{shown_version, shown_answered}
 use Rattle.cq_talk.proofs.Unmade.{accepts_all}
+use Rattle.cq_base.specs.declared.refusal.Refusal.TheVariants as refusal
 
 -- what the user knows fits the history: each accepted change's number was named, what was named is published, and what was
 -- answered is at most the floor
@@ -51,28 +50,6 @@ pub record Turn (set : Settings) (callers : ℕ) (k : Known) (l : Said) (r : Rep
   pub fits : Fits callers (known_then k l r) (max seen (named r)) later
 
 -- ---- replies that name nothing
-
-pub no_version : (why : Refusal) → version_in (refused_as why) ≡ 0
-no_version refusal.Json = refl
-no_version refusal.Op = refl
-no_version (refusal.Field name) = refl
-no_version refusal.Lang = refl
-no_version refusal.Path = refl
-no_version refusal.TooMuchText = refl
-no_version refusal.Min = refl
-no_version refusal.Scope = refl
-no_version refusal.Memory = refl
-
-pub no_answer : (why : Refusal) → answered_in (refused_as why) ≡ 0
-no_answer refusal.Json = refl
-no_answer refusal.Op = refl
-no_answer (refusal.Field name) = refl
-no_answer refusal.Lang = refl
-no_answer refusal.Path = refl
-no_answer refusal.TooMuchText = refl
-no_answer refusal.Min = refl
-no_answer refusal.Scope = refl
-no_answer refusal.Memory = refl
 
 pub none_told : (changes : List Change) (change : Change) (why : Refused) → (with_told changes change (cause_told why) ≡ changes) × (version_in (cause_told why) ≡ 0) × (answered_in (cause_told why) ≡ 0)
 none_told changes change refused.Absent = (refl, refl, refl)
@@ -181,7 +158,7 @@ module _ (set : Settings) (callers : ℕ) (alone : Type 0) (c seen : ℕ) (h : L
       let ask = keeps_to_ask set callers alone c h later is.asks fair in
       let many = same_many is.asks.mid ask.1 in
       record {
-        is = inr (inl (omega (arith, is.above, many), is.reply_is ∙ ap reply.Future many));
+        is = inr (inl (omega (arith, is.above, many), is.reply_is ∙ ap (λ (n : ℕ). reply.Refused (refusal.Future n)) many));
         fits = silent later (Read (Ok (request.Query q))) r refl (ap version_in is.reply_is) (ap answered_in is.reply_is) (keeps_asking set callers alone c h later is.asks fair);
       }
   answered q r later fair (inr (inl is)) =
@@ -210,7 +187,7 @@ module _ (set : Settings) (callers : ℕ) (alone : Type 0) (c seen : ℕ) (h : L
   turn : (l : Said) (r : Reply) (later : List Event) → Fair set callers c later → Answers set callers alone c seen h l r later → Turn set callers k l r seen later
   turn l r later fair (inl given) = given_up l r later given.0 fair given.1
   turn TooLong r later fair (inr is) = record { is = inr is.0; fits = silent later TooLong r refl (ap version_in is.0) (ap answered_in is.0) (keeps set callers alone c h later [] refl is.1 fair) }
-  turn (Read (Err why)) r later fair (inr is) = record { is = inr is.0; fits = silent later (Read (Err why)) r refl (ap version_in is.0 ∙ no_version why) (ap answered_in is.0 ∙ no_answer why) (keeps set callers alone c h later [] refl is.1 fair) }
+  turn (Read (Err why)) r later fair (inr is) = record { is = inr is.0; fits = silent later (Read (Err why)) r refl (ap version_in is.0) (ap answered_in is.0) (keeps set callers alone c h later [] refl is.1 fair) }
   turn (Read (Ok (request.Change change))) r later fair (inr is) = changed later change r fair is
   turn (Read (Ok (request.Query q))) r later fair (inr is) = answered q r later fair is
   turn (Read (Ok request.State)) r later fair (inr is) = told later r fair is

@@ -16,12 +16,10 @@ use Rattle.cq_history.proofs.Doing.{slots_number}
 use Rattle.cq_history.proofs.Prefixes.{accepted-append}
 use Rattle.cq_request.specs.declared.request.Query.{Query}
 use Rattle.cq_request.specs.declared.request.Request.TheVariants as request
-use Rattle.cq_request.specs.declared.request.Refusal.{Refusal}
-use Rattle.cq_request.specs.declared.request.Refusal.TheVariants as refusal
 use Rattle.cq_reply.specs.declared.reply.Reply.{Reply}
 use Rattle.cq_hub.specs.Hubs.{Never}
 use Rattle.cq_hub.proofs.Growing.{no_fewer, accepted_more}
-use Rattle.cq_answer.specs.Refusals.{refused_as, cause_told}
+use Rattle.cq_answer.specs.Refusals.{cause_told}
 use Rattle.cq_talk.specs.Said.{Said, TooLong, Read}
 use Rattle.cq_talk.specs.Replies.{named, seen_after}
 use Rattle.cq_talk.specs.Talk.{TalkBy, AnswersBy, IsAnswerBy, IsAnswered, IsChangedBy, IsGivenUp, IsServed, Tells, Asks, Waits}
@@ -31,17 +29,6 @@ use Rattle.cq_talk.proofs.Unmade.{IsUnmade}
 
 pub published_few : (set : Settings) (callers : ℕ) (h : List Event) → Lawful set callers h → (state callers h).published ≤ length (accepted h)
 published_few set callers h law = omega (arith, (in_order set callers h law).published, prefix_len-le-length is_done (state callers h).slots, slots_number callers h)
-
-none_named : (why : Refusal) → named (refused_as why) ≡ 0
-none_named refusal.Json = refl
-none_named refusal.Op = refl
-none_named (refusal.Field name) = refl
-none_named refusal.Lang = refl
-none_named refusal.Path = refl
-none_named refusal.TooMuchText = refl
-none_named refusal.Min = refl
-none_named refusal.Scope = refl
-none_named refusal.Memory = refl
 
 no_number : (why : Refused) → named (cause_told why) ≡ 0
 no_number refused.Absent = refl
@@ -90,7 +77,7 @@ module _ (set : Settings) (callers : ℕ) (alone : Type 0) (c : ℕ) where
 
   answer_few : (by seen : ℕ) (h later : List Event) (l : Said) (r : Reply) → Lawful set callers later → IsAnswerBy set callers alone c by seen h l r later → Few h later r
   answer_few by seen h later TooLong r law is = silent h later r (waits_few h later is.1) (ap named is.0)
-  answer_few by seen h later (Read (Err why)) r law is = silent h later r (waits_few h later is.1) (ap named is.0 ∙ none_named why)
+  answer_few by seen h later (Read (Err why)) r law is = silent h later r (waits_few h later is.1) (ap named is.0)
   answer_few by seen h later (Read (Ok (request.Change change))) r law is = changed_few by h later change r is
   answer_few by seen h later (Read (Ok (request.Query q))) r law is = answered_few seen h later q r is
   answer_few by seen h later (Read (Ok request.State)) r law is = told_few h later r law is

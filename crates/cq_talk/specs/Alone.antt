@@ -8,10 +8,10 @@ use Rattle.cq_request.specs.declared.request.Query.{Query}
 use Rattle.cq_request.specs.declared.request.Request.TheVariants as request
 use Rattle.cq_reply.specs.declared.reply.Reply.{Reply}
 use Rattle.cq_reply.specs.declared.reply.Reply.TheVariants as reply
-use Rattle.cq_answer.specs.Refusals.{refused_as}
 use Rattle.cq_answer.specs.Reply.{IsReply}
 use Rattle.cq_talk.specs.Said.{Said, TooLong, Read, WasRead}
 use Rattle.cq_talk.specs.Causes.{cause, change_told}
+use Rattle.cq_base.specs.declared.refusal.Refusal.TheVariants as refusal
 
 -- the accepted changes, up to which one all are done, the published version, and the floor
 pub record Walk : Type 0 where
@@ -42,7 +42,7 @@ IsChangedAlone set k change r after = (r ≡ change_told k.changes (cause set k.
 
 -- it asks for more changes than there are
 abbrev pub IsFutureAlone : Walk → Query → Reply → Walk → Type 0
-IsFutureAlone k q r after = (length k.changes < q.at) × (r ≡ reply.Future (length k.changes)) × (after ≡ k)
+IsFutureAlone k q r after = (length k.changes < q.at) × (r ≡ reply.Refused (refusal.Future (length k.changes))) × (after ≡ k)
 
 -- it is not to finish works, and some change is not done
 abbrev pub IsPendingAlone : Walk → Query → Reply → Walk → Type 0
@@ -57,7 +57,7 @@ IsAnsweredAlone set k q r after = IsFutureAlone k q r after ⊎ (IsPendingAlone 
 
 abbrev pub IsReplyAlone : Settings → Walk → Said → Reply → Walk → Type 0
 IsReplyAlone set k TooLong r after = (r ≡ reply.Long) × (after ≡ k)
-IsReplyAlone set k (Read (Err why)) r after = (r ≡ refused_as why) × (after ≡ k)
+IsReplyAlone set k (Read (Err why)) r after = (r ≡ reply.Refused why) × (after ≡ k)
 IsReplyAlone set k (Read (Ok (request.Change change))) r after = IsChangedAlone set k change r after
 IsReplyAlone set k (Read (Ok (request.Query q))) r after = IsAnsweredAlone set k q r after
 IsReplyAlone set k (Read (Ok request.State)) r after = (r ≡ reply.State (length k.changes) k.done k.published) × (after ≡ k)

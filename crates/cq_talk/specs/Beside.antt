@@ -10,11 +10,12 @@ use Rattle.cq_request.specs.declared.request.Query.{Query}
 use Rattle.cq_request.specs.declared.request.Request.TheVariants as request
 use Rattle.cq_reply.specs.declared.reply.Reply.{Reply}
 use Rattle.cq_reply.specs.declared.reply.Reply.TheVariants as reply
-use Rattle.cq_answer.specs.Refusals.{refused_as, cause_told}
+use Rattle.cq_answer.specs.Refusals.{cause_told}
 use Rattle.cq_answer.specs.Reply.{IsReply}
 use Rattle.cq_talk.specs.Said.{Said, TooLong, Read, WasRead}
 use Rattle.cq_talk.specs.Replies.{version_in, answered_in}
 use Rattle.cq_talk.specs.Causes.{state_at, cause}
+use Rattle.cq_base.specs.declared.refusal.Refusal.TheVariants as refusal
 
 -- What the user knows: the changes that were accepted, the greatest version or published number that a reply named, and the
 -- greatest version that a query's reply named.
@@ -67,7 +68,7 @@ IsPut changes n = IsNumber changes n × (is_put (slice_index_or changes (n - 1) 
 
 -- it asks for more changes than were accepted, and the reply says how many there are
 abbrev pub IsFutureBeside : Known → Query → Reply → Type 0
-IsFutureBeside k q r = (length k.changes < q.at) × (r ≡ reply.Future (length k.changes))
+IsFutureBeside k q r = (length k.changes < q.at) × (r ≡ reply.Refused (refusal.Future (length k.changes)))
 
 -- It is not to finish works, and the reply names a put that is above each version named before.
 pub record IsPendingBeside (k : Known) (q : Query) (r : Reply) : Type 0 where
@@ -96,7 +97,7 @@ pub record IsToldBeside (k : Known) (r : Reply) : Type 0 where
 
 abbrev pub IsReplyBeside : Settings → Known → Said → Reply → Type 0
 IsReplyBeside set k TooLong r = r ≡ reply.Long
-IsReplyBeside set k (Read (Err why)) r = r ≡ refused_as why
+IsReplyBeside set k (Read (Err why)) r = r ≡ reply.Refused why
 IsReplyBeside set k (Read (Ok (request.Change change))) r = IsChangedBeside set k change r
 IsReplyBeside set k (Read (Ok (request.Query q))) r = IsAnsweredBeside set k q r
 IsReplyBeside set k (Read (Ok request.State)) r = IsToldBeside k r

@@ -2,7 +2,7 @@
 use Rattle.std.specs.Prelude.{ℕ, List, length, nat_lt, if◌then◌else◌, Result}
 use Rattle.cq_lines.specs.Pieces.{line_limit}
 use Rattle.cq_request.specs.declared.request.Request.{Request}
-use Rattle.cq_request.specs.declared.request.Refusal.{Refusal}
+use Rattle.cq_base.specs.declared.refusal.Refusal.{Refusal}
 use Rattle.cq_request.specs.Reading.{line_says}
 
 -- the line is too long to be read; or it was read, and is a request, or is refused

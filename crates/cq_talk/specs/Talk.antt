@@ -12,11 +12,12 @@ use Rattle.cq_request.specs.declared.request.Query.{Query}
 use Rattle.cq_request.specs.declared.request.Request.TheVariants as request
 use Rattle.cq_reply.specs.declared.reply.Reply.{Reply}
 use Rattle.cq_reply.specs.declared.reply.Reply.TheVariants as reply
-use Rattle.cq_answer.specs.Refusals.{refused_as, cause_told}
+use Rattle.cq_answer.specs.Refusals.{cause_told}
 use Rattle.cq_answer.specs.Reply.{IsReply}
 use Rattle.cq_hub.specs.Hubs.{Grows, IsFloor, IsPublication, Never}
 use Rattle.cq_talk.specs.Said.{Said, TooLong, Read}
 use Rattle.cq_talk.specs.Replies.{named}
+use Rattle.cq_base.specs.declared.refusal.Refusal.TheVariants as refusal
 
 -- The floor of a query: the greatest of what was named before, the version that it asks for, and, if it may finish
 -- works, how many changes there are at its question.
@@ -95,7 +96,7 @@ module _ (set : Settings) (callers : ℕ) (alone : Type 0) (c : ℕ) where
   pub record IsFuture (h : List Event) (q : Query) (r : Reply) (after : List Event) : Type 0 where
     pub asks : Asks alone c h after
     pub above : length (state callers asks.mid).slots < q.at
-    pub reply_is : r ≡ reply.Future (length (state callers asks.mid).slots)
+    pub reply_is : r ≡ reply.Refused (refusal.Future (length (state callers asks.mid).slots))
 
   -- It is not to finish works, and some change up to its floor is not done at its question: the reply names the least
   -- such one.
@@ -140,7 +141,7 @@ module _ (set : Settings) (callers : ℕ) (alone : Type 0) (c : ℕ) where
   -- what a line says is answered, and the caller with the number `by` accepts it if it is a change
   abbrev pub IsAnswerBy : ℕ → ℕ → List Event → Said → Reply → List Event → Type 0
   IsAnswerBy by seen h TooLong r after = (r ≡ reply.Long) × Waits alone c h after
-  IsAnswerBy by seen h (Read (Err why)) r after = (r ≡ refused_as why) × Waits alone c h after
+  IsAnswerBy by seen h (Read (Err why)) r after = (r ≡ reply.Refused why) × Waits alone c h after
   IsAnswerBy by seen h (Read (Ok (request.Change change))) r after = IsChangedBy by h change r after
   IsAnswerBy by seen h (Read (Ok (request.Query q))) r after = IsAnswered seen h q r after
   IsAnswerBy by seen h (Read (Ok request.State)) r after = Tells h r after

@@ -52,7 +52,8 @@ impl Model {
         Ok(refusal)
     }
 
-    /// The version at which a query is answered.
+    /// The version at which a query is answered. One that does no works publishes only what it has to, unless all is
+    /// done.
     pub fn answer(&mut self, query: &Query) -> Result<u64, Refusal> {
         let at = query.at.unwrap_or(0);
         let accepted = self.accepted.count();
@@ -63,13 +64,14 @@ impl Model {
             self.worked = accepted;
         }
         let done = self.done();
-        if self.seen.max(at) > done {
+        let least = self.seen.max(at);
+        if least > done {
             return Err(Refusal::Pending(done.saturating_add(1)));
         }
-        self.published = done;
-        self.floor = done;
-        self.seen = done;
-        Ok(done)
+        let to = if done == accepted { done } else { least };
+        self.published = self.published.max(to);
+        self.floor = self.published;
+        Ok(self.look())
     }
 
     /// The version of the last answer, which is seen now.

@@ -54,6 +54,31 @@ const TALK: &str = "\
 {\"op\":\"groups\",\"project\":\"q\",\"min\":2}\t work 9 work 8 shard 0 shard 1 open 9
 ";
 
+// A talk that ends with a gate, which is done as soon as it is accepted, and an upload that is not done.
+const UNDONE: &str = "\
+{\"op\":\"gate\",\"project\":\"p\",\"conditions\":[]}\t accept 1
+{\"op\":\"put\",\"project\":\"p\",\"path\":\"a\",\"lang\":\"any\",\"text\":\"a b\"}\t accept 2
+";
+
+// The next talk was told of neither. While the upload is not done, its queries publish only what they ask for.
+const AFTER_UNDONE: &str = "\
+{\"op\":\"files\",\"project\":\"p\",\"finish\":false}\t open 0
+{\"op\":\"files\",\"project\":\"p\",\"at\":1,\"finish\":false}\t shard 0 shard 1 open 1
+{\"op\":\"files\",\"project\":\"p\",\"at\":2,\"finish\":false}\t
+";
+
+// A talk that ends with all changes done, and the last one not published.
+const DONE: &str = "\
+{\"op\":\"put\",\"project\":\"p\",\"path\":\"a\",\"lang\":\"any\",\"text\":\"a b\"}\t accept 1
+{\"op\":\"files\",\"project\":\"p\"}\t work 1 shard 0 shard 1 open 1
+{\"op\":\"drop\",\"project\":\"p\",\"path\":\"a\"}\t accept 2
+";
+
+// The next talk was not told of that one, and publishes it all the same.
+const AFTER_DONE: &str = "\
+{\"op\":\"files\",\"project\":\"p\",\"finish\":false}\t shard 0 shard 1 open 2
+";
+
 // Writes down each call, in order, with its number.
 #[derive(Drop)]
 struct Noting {
@@ -87,11 +112,12 @@ impl Gate for Noting {
     }
 }
 
-// The end of a session over a new plain hub, and what its gate was called for.
+// The end of a session over a plain hub, after the session `before` on the same pass, and what the gate was called for in both.
 fn noted<R: Threads + Sync, L: Ledger>(
     rt: &R,
     alloc: Global,
     settings: &Settings,
+    before: &[u8],
     input: &[u8],
     blank: Blank,
 ) -> Result<(End, String), Memory>
@@ -106,6 +132,9 @@ fn noted<R: Threads + Sync, L: Ledger>(
     let gate = Noting {
         calls: RefCell::new(String::new(alloc)),
     };
+    let _left = written(
+        rt, alloc, &keyer, &hub, before, &gate, &mut pass, &mut steps,
+    )?;
     let (end, _) = written(rt, alloc, &keyer, &hub, input, &gate, &mut pass, &mut steps)?;
     Ok((end, gate.calls.into_inner()))
 }
@@ -115,19 +144,20 @@ fn noted_here<R: Threads + Sync>(
     rt: &R,
     alloc: Global,
     settings: &Settings,
+    before: &[u8],
     input: &[u8],
 ) -> Result<Option<(End, String)>, Memory> {
     if settings.check().is_some() {
         return Ok(None);
     }
-    Ok(Some(noted::<R, Brand>(rt, alloc, settings, input, Blank::new(1))?))
+    Ok(Some(noted::<R, Brand>(rt, alloc, settings, before, input, Blank::new(1))?))
 }
 
-// The lines and the calls of `TALK`.
-fn parted(alloc: Global) -> Result<(String, String), Memory> {
+// The lines and the calls of a talk.
+fn parted(alloc: Global, talk: &str) -> Result<(String, String), Memory> {
     let mut asked = String::new(alloc);
     let mut calls = String::new(alloc);
-    for line in TALK.lines() {
+    for line in talk.lines() {
         if let Some((request, of_line)) = line.split_once('\t') {
             asked.push_str(request)?;
             asked.push_str("\n")?;
@@ -137,10 +167,24 @@ fn parted(alloc: Global) -> Result<(String, String), Memory> {
     Ok((asked, calls))
 }
 
+// Whether the gate is called as the lines of two talks say, one after the other.
+fn is_called<R: Threads + Sync>(
+    rt: &R,
+    alloc: Global,
+    before: &str,
+    talk: &str,
+) -> Result<bool, Memory> {
+    let (left, mut calls) = parted(alloc, before)?;
+    let (asked, more) = parted(alloc, talk)?;
+    calls.push_str(more.as_str())?;
+    let noted = noted_here(rt, alloc, &SETTINGS, left.as_bytes(), asked.as_bytes())?;
+    Ok(noted == Some((End::Finished, calls)))
+}
+
 #[test]
 fn the_gate_is_called_where_a_talk_gets_on(rt: HostRuntime) -> Result<(), Memory> {
-    let (asked, calls) = parted(rt.alloc())?;
-    let noted = noted_here(&rt, rt.alloc(), &SETTINGS, asked.as_bytes())?;
-    assert_eq!(rt; noted, Some((End::Finished, calls)));
+    for (before, talk) in [("", TALK), (UNDONE, AFTER_UNDONE), (DONE, AFTER_DONE)] {
+        assert!(rt; is_called(&rt, rt.alloc(), before, talk)?);
+    }
     Ok(())
 }

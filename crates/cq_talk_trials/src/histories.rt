@@ -341,8 +341,8 @@ fn pending_may_be(
     Ok(is_line(reply, &told) && may_be && is_waiting)
 }
 
-// The version is not below what was seen, asked for or known to be done, nor, where all is to be done first, below what was
-// known to be accepted; and all else is as the history has it at the version.
+// The version is not below what was seen or asked for, nor, where all is to be done first, below what was known to be
+// accepted; and all else is as the history has it at the version.
 fn answer_may_be(
     alloc: Global,
     changes: &[Change],
@@ -354,7 +354,7 @@ fn answer_may_be(
 ) -> Result<bool, Memory> {
     let mut told = String::new(alloc);
     tell_query_at(alloc, kind, query, changes, version, &mut told)?;
-    let floor = known.seen.max(query.at.unwrap_or(0)).max(known.done);
+    let floor = known.seen.max(query.at.unwrap_or(0));
     let least = if query.finish == Some(false) {
         floor
     } else {

@@ -21,7 +21,7 @@ use std::time::{Clock, Duration};
 struct Bare {}
 
 impl Indexed for Bare {
-    ghost use Rattle.std.specs.Prelude.{◌≡◌, [], refl};
+    ghost use Rattle.std.specs.Prelude.{[], refl};
     ghost use Rattle.std.proofs.Common.{rules};
 
     ghost keys_in = { λ work. [] };

@@ -2,8 +2,8 @@
 use Rattle.std.specs.Prelude.{◌≡◌, ◌⊎◌, ℕ, nat_lt, List, [], if◌then◌else◌, MatchBool, Ok, Err}
 use Rattle.std.specs.List.{AllZip}
 use Rattle.std.specs.Str.{bytes_eq}
+use Rattle.cq_base.specs.declared.refusal.Refusal.TheVariants as refusal
 use Rattle.cq_answer.specs.Given.{IsReplyOf}
-use Rattle.cq_answer.specs.Refusals.{refused_as}
 use Rattle.cq_base.specs.declared.change.Condition.{Condition}
 use Rattle.cq_base.specs.declared.settings.Settings.{Settings}
 use Rattle.cq_history.specs.Files.{File}
@@ -26,18 +26,18 @@ module _ {L : Type 0} (s : Snapshot L) where
 
   -- a query is answered at the version, unless it asks for a later one
   abbrev pub AnswersQuery : Query → Reply → Type 0
-  AnswersQuery q r = MatchBool (nat_lt s.version q.at) (r ≡ reply.Future s.version) (IsReplyOf (files_of q.project) (conditions_of q.project) q s.version r)
+  AnswersQuery q r = MatchBool (nat_lt s.version q.at) (r ≡ reply.Refused (refusal.Future s.version)) (IsReplyOf (files_of q.project) (conditions_of q.project) q s.version r)
 
   -- anything but a query is no operation here
   abbrev pub AnswersRequest : Request → Reply → Type 0
-  AnswersRequest (request.Change c) r = r ≡ reply.Op
+  AnswersRequest (request.Change c) r = r ≡ reply.Refused refusal.Op
   AnswersRequest (request.Query q) r = AnswersQuery q r
-  AnswersRequest request.State r = r ≡ reply.Op
+  AnswersRequest request.State r = r ≡ reply.Refused refusal.Op
 
   abbrev pub AnswersSaid : Said → Reply → Type 0
   AnswersSaid TooLong r = r ≡ reply.Long
   AnswersSaid (Read (Ok request)) r = AnswersRequest request r
-  AnswersSaid (Read (Err why)) r = r ≡ refused_as why
+  AnswersSaid (Read (Err why)) r = r ≡ reply.Refused why
 
   -- the reply to a line; if it isn't too long, the reply may be that memory was refused
   abbrev pub AnswersLine : Settings → List ℕ → Reply → Type 0

@@ -9,11 +9,11 @@ ghost use Rattle.cq_talk.specs.Said.{Read};
 ghost use Rattle.cq_tokfile.specs.Loaded.{IsLoadedOf};
 ghost use Rattle.cq_tokfile.specs.Snapshot.{IsSoundSnapshot};
 
-use cq_answer::{answer, refused_as};
-use cq_base::{Memory, Settings, Steps};
+use cq_answer::answer;
+use cq_base::{Memory, Refusal, Settings, Steps};
 use cq_projects::ProjectFiles;
 use cq_reply::Reply;
-use cq_request::{Query, Request, read_request};
+use cq_request::{Query, ReadError, Request, read_request};
 use cq_tokfile::{Loaded, Snapshot};
 use cq_work::Work;
 use std::alloc::Global;
@@ -72,7 +72,7 @@ fn query_reply<R: Threads + Sync, L: Ledger>(
     ensures loaded { IsLoadedOf snapshot.now.files loaded.new }
 {
     if query.at > snapshot.version {
-        return Ok(Reply::Future(snapshot.version));
+        return Ok(Reply::Refused(Refusal::Future(snapshot.version)));
     }
     if !query.project.is_same(&snapshot.project) {
         return reply_to_other(rt, alloc, settings, query, snapshot.version, steps);
@@ -112,8 +112,9 @@ pub(crate) fn reply_to<R: Threads + Sync, L: Ledger>(
         Ok(Request::Query(query)) => {
             query_reply(rt, alloc, settings, snapshot, loaded, &query, steps)
         }
-        Ok(Request::Change(_change)) => Ok(Reply::Op),
-        Ok(Request::State) => Ok(Reply::Op),
-        Err(refusal) => refused_as(refusal),
+        Ok(Request::Change(_change)) => Ok(Reply::Refused(Refusal::Op)),
+        Ok(Request::State) => Ok(Reply::Refused(Refusal::Op)),
+        Err(ReadError::Refused(refusal)) => Ok(Reply::Refused(refusal)),
+        Err(ReadError::Memory) => Err(Memory),
     }
 }

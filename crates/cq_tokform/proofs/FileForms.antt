@@ -1,54 +1,38 @@
 -- What is read is spelled so, and what is spelled so is read: files.
-use Rattle.std.proofs.Common.{◌≡◌, ℕ, zero, suc, ◌^◌, ◌<◌, Bool, true, false, ◌&&◌, ◌||◌, eqb, nat_le, List, [], ◌∷◌, ◌++◌, length, Some, None, refl, sym, ap, subst, ◌∙◌, append_assoc, arith}
+use Rattle.std.proofs.Common.{◌≡◌, ℕ, zero, suc, ◌^◌, ◌<◌, Bool, true, false, ◌&&◌, ◌||◌, eqb, nat_le, List, [], ◌∷◌, ◌++◌, length, Some, refl, ap, subst, ◌∙◌, append_assoc, arith}
 use Rattle.std.specs.Int.{w32, w64, to_be_bytes}
 use Rattle.std.proofs.lemmas.Bool.{eqb-true, leb-true, le-leb}
 use Rattle.std.proofs.lemmas.List.{nil_from_length}
 use Rattle.cq_base.specs.declared.settings.Settings.{Settings}
 use Rattle.cq_base.specs.declared.lang.Lang.{Lang}
-use Rattle.cq_base.specs.declared.lang.Lang.TheVariants as lang
 use Rattle.cq_base.specs.declared.measures.FileCounts.{FileCounts}
-use Rattle.cq_work.specs.Keys.{lang_code}
+use Rattle.cq_base.specs.Tables.{lang_coded}
+use Rattle.cq_base.proofs.Tables.{read_back}
 use Rattle.cq_work.specs.declared.work.State.{State}
 use Rattle.cq_work.specs.declared.work.State.TheVariants as states
 use Rattle.cq_tokform.specs.Spelling.{text, counted, token, function, language, outcome, Recorded, file}
 use Rattle.cq_tokform.specs.Spelling.{counts as counts_bytes}
 use Rattle.cq_tokform.specs.Sound.{IsSoundText, IsSoundToken, IsSoundFunction, AreCounted, IsSoundState, IsSoundFile, is_sound_file}
 use Rattle.cq_work.specs.Bounds.{has_tokens}
-use Rattle.cq_tokform.specs.Reading.{◌>>=◌, byte_at, number_at, text_at, token_at, function_at, counted_at, lang_of, lang_at, state_at, counts_at, file_at}
+use Rattle.cq_tokform.specs.Reading.{◌>>=◌, byte_at, number_at, text_at, token_at, function_at, counted_at, lang_at, state_at, counts_at, file_at}
 use Rattle.cq_tokform.proofs.Fields.{IsBytes, IsReader, Takes, Takes-then, after, bind_some, if_some, some_is, byte_takes, number32, number64, texts}
-use Rattle.cq_tokform.proofs.Records.{other, none_is, both, with_both}
+use Rattle.cq_tokform.proofs.Records.{both, with_both}
 use Rattle.cq_tokform.proofs.Records.{tokens as tokens_reader, functions as functions_reader}
 use Rattle.cq_tokform.proofs.Counted.{lists}
 
 -- ---- languages
 
-lang_again : (l : Lang) → lang_of (lang_code l) ≡ Some l
-lang_again lang.Any = refl
-lang_again lang.Go = refl
-lang_again lang.C = refl
-lang_again lang.Java = refl
-
-beyond_lang : (b : ℕ) → 3 < b → lang_of b ≡ None
-beyond_lang b lt = rw (other b 0 (omega (arith, lt)), other b 1 (omega (arith, lt)), other b 2 (omega (arith, lt)), other b 3 (omega (arith, lt))) refl
-
-lang_takes : (b : ℕ) (l : Lang) → lang_of b ≡ Some l → b ≡ lang_code l
-lang_takes zero l e = ap lang_code (some_is lang.Any l e)
-lang_takes (suc zero) l e = ap lang_code (some_is lang.Go l e)
-lang_takes (suc (suc zero)) l e = ap lang_code (some_is lang.C l e)
-lang_takes (suc (suc (suc zero))) l e = ap lang_code (some_is lang.Java l e)
-lang_takes (suc (suc (suc (suc b)))) l e = absurd (none_is l (sym (beyond_lang (suc (suc (suc (suc b)))) (omega arith)) ∙ e))
-
 language_takes : (bytes : List ℕ) (x : Lang × List ℕ) → IsBytes bytes → lang_at bytes ≡ Some x → Takes bytes (language x.0) x.1 × Unit {0}
 unfolding lang_at
 language_takes bytes x fits e =
-    let b = bind_some (byte_at bytes) (λ b. lang_of b.0 >>= λ l. Some (l, b.1)) x e in
-    let l = bind_some (lang_of b.0.0) (λ l. Some (l, b.0.1)) x b.2 in
-    let whole : Takes bytes (language l.0) b.0.1 = subst (λ (n : ℕ). Takes bytes (n ∷ []) b.0.1) (lang_takes b.0.0 l.0 l.1) (byte_takes bytes b.0 fits b.1) in
+    let b = bind_some (byte_at bytes) (λ b. lang_coded b.0 >>= λ l. Some (l, b.1)) x e in
+    let l = bind_some (lang_coded b.0.0) (λ l. Some (l, b.0.1)) x b.2 in
+    let whole : Takes bytes (language l.0) b.0.1 = subst (λ (n : ℕ). Takes bytes (n ∷ []) b.0.1) (read_back.lang_codes.only b.0.0 l.0 l.1) (byte_takes bytes b.0 fits b.1) in
     subst (λ (y : Lang × List ℕ). Takes bytes (language y.0) y.1 × Unit {0}) (some_is (l.0, b.0.1) x l.2) (whole, tt)
 
 language_again : (l : Lang) (rest : List ℕ) → Unit {0} → lang_at (language l ++ rest) ≡ Some (l, rest)
 unfolding lang_at
-language_again l rest any = rw (lang_again l) refl
+language_again l rest any = rw (read_back.lang_codes.found l) refl
 
 languages : IsReader language (λ (l : Lang). Unit {0}) lang_at
 languages = record { takes = language_takes; again = language_again }

@@ -1,109 +1,43 @@
 -- What is read is spelled so, and what is spelled so is read: conditions, tokens and functions.
-use Rattle.std.proofs.Common.{◌≡◌, ℕ, zero, suc, ◌+◌, ◌^◌, ◌<◌, Bool, true, false, ◌&&◌, ◌||◌, not, cond, eqb, nat_le, List, [], ◌∷◌, ◌++◌, length, Some, None, refl, sym, ap, subst, ◌∙◌, append_assoc, arith}
+use Rattle.std.proofs.Common.{◌≡◌, ℕ, ◌+◌, ◌^◌, ◌<◌, Bool, true, false, ◌&&◌, ◌||◌, not, cond, eqb, nat_le, List, [], ◌∷◌, ◌++◌, length, Some, None, refl, ap, subst, ◌∙◌, append_assoc, arith}
 use Rattle.std.specs.Int.{w32, w64, to_be_bytes}
-use Rattle.std.proofs.lemmas.Bool.{eqb-true, ne_eqb, leb-true, le-leb}
+use Rattle.std.proofs.lemmas.Bool.{eqb-true, leb-true, le-leb}
 use Rattle.std.proofs.lemmas.List.{nil_from_length}
 use Rattle.cq_base.specs.declared.settings.Settings.{Settings}
-use Rattle.cq_base.specs.declared.change.Metric.{Metric}
-use Rattle.cq_base.specs.declared.change.Metric.TheVariants as metric
-use Rattle.cq_base.specs.declared.change.Compare.{Compare}
-use Rattle.cq_base.specs.declared.change.Compare.TheVariants as compare
 use Rattle.cq_base.specs.declared.change.Condition.{Condition}
-use Rattle.cq_base.specs.declared.token.Class.{Class}
-use Rattle.cq_base.specs.declared.token.Class.TheVariants as class
 use Rattle.cq_base.specs.declared.token.Spelled.{Spelled}
 use Rattle.cq_base.specs.declared.token.Token.{Token}
 use Rattle.cq_func.specs.declared.function.Function.{Function}
-use Rattle.cq_work.specs.Keys.{class_code}
-use Rattle.cq_tokform.specs.Spelling.{text, metric_byte, compare_byte, condition, place, token, function}
+use Rattle.cq_base.specs.Tables.{class_code, class_coded, metric_code, metric_coded, compare_code, compare_coded}
+use Rattle.cq_base.proofs.Tables.{read_back}
+use Rattle.cq_tokform.specs.Spelling.{text, condition, place, token, function}
 use Rattle.cq_tokform.specs.Sound.{IsSoundText, IsSoundCondition, IsSoundToken, IsSoundFunction, is_sound_token, is_sound_function}
 use Rattle.cq_work.specs.Bounds.{is_ignored}
-use Rattle.cq_tokform.specs.Reading.{◌>>=◌, byte_at, number_at, text_at, metric_of, compare_of, class_of, condition_at, place_at, token_at, function_at}
+use Rattle.cq_tokform.specs.Reading.{◌>>=◌, byte_at, number_at, text_at, condition_at, place_at, token_at, function_at}
 use Rattle.cq_tokform.proofs.Fields.{IsBytes, IsReader, Takes, Takes-then, bind_some, if_some, some_is, byte_takes, number32, number64, texts}
-
--- ---- bytes that stand for a name
-
--- a byte that is none of a chain's
-pub other : (b k : ℕ) → k < b → eqb b k ≡ false
-other b k lt = ne_eqb b k (λ e. omega (arith, lt, e))
-
-pub none_is : {A : Type 0} (x : A) → None ≡ Some x → ⊥
-none_is x e = absurd cc
-
-class_again : (c : Class) → class_of (class_code c) ≡ Some c
-class_again class.Ident = refl
-class_again class.Word = refl
-class_again class.Literal = refl
-class_again class.Punct = refl
-
-beyond_class : (b : ℕ) → 3 < b → class_of b ≡ None
-beyond_class b lt = rw (other b 0 (omega (arith, lt)), other b 1 (omega (arith, lt)), other b 2 (omega (arith, lt)), other b 3 (omega (arith, lt))) refl
-
-class_takes : (b : ℕ) (c : Class) → class_of b ≡ Some c → b ≡ class_code c
-class_takes zero c e = ap class_code (some_is class.Ident c e)
-class_takes (suc zero) c e = ap class_code (some_is class.Word c e)
-class_takes (suc (suc zero)) c e = ap class_code (some_is class.Literal c e)
-class_takes (suc (suc (suc zero))) c e = ap class_code (some_is class.Punct c e)
-class_takes (suc (suc (suc (suc b)))) c e = absurd (none_is c (sym (beyond_class (suc (suc (suc (suc b)))) (omega arith)) ∙ e))
-
-compare_again : (c : Compare) → compare_of (compare_byte c) ≡ Some c
-compare_again compare.Gt = refl
-compare_again compare.Lt = refl
-
-beyond_compare : (b : ℕ) → 1 < b → compare_of b ≡ None
-beyond_compare b lt = rw (other b 0 (omega (arith, lt)), other b 1 (omega (arith, lt))) refl
-
-compare_takes : (b : ℕ) (c : Compare) → compare_of b ≡ Some c → b ≡ compare_byte c
-compare_takes zero c e = ap compare_byte (some_is compare.Gt c e)
-compare_takes (suc zero) c e = ap compare_byte (some_is compare.Lt c e)
-compare_takes (suc (suc b)) c e = absurd (none_is c (sym (beyond_compare (suc (suc b)) (omega arith)) ∙ e))
-
-metric_again : (m : Metric) → metric_of (metric_byte m) ≡ Some m
-metric_again metric.Lines = refl
-metric_again metric.Ncloc = refl
-metric_again metric.Files = refl
-metric_again metric.Complexity = refl
-metric_again metric.DupLines = refl
-metric_again metric.DupBlocks = refl
-metric_again metric.DupFiles = refl
-metric_again metric.Density = refl
-
-beyond_metric : (b : ℕ) → 7 < b → metric_of b ≡ None
-beyond_metric b lt = rw (other b 0 (omega (arith, lt)), other b 1 (omega (arith, lt)), other b 2 (omega (arith, lt)), other b 3 (omega (arith, lt)), other b 4 (omega (arith, lt)), other b 5 (omega (arith, lt)), other b 6 (omega (arith, lt)), other b 7 (omega (arith, lt))) refl
-
-metric_takes : (b : ℕ) (m : Metric) → metric_of b ≡ Some m → b ≡ metric_byte m
-metric_takes zero m e = ap metric_byte (some_is metric.Lines m e)
-metric_takes (suc zero) m e = ap metric_byte (some_is metric.Ncloc m e)
-metric_takes (suc (suc zero)) m e = ap metric_byte (some_is metric.Files m e)
-metric_takes (suc (suc (suc zero))) m e = ap metric_byte (some_is metric.Complexity m e)
-metric_takes (suc (suc (suc (suc zero)))) m e = ap metric_byte (some_is metric.DupLines m e)
-metric_takes (suc (suc (suc (suc (suc zero))))) m e = ap metric_byte (some_is metric.DupBlocks m e)
-metric_takes (suc (suc (suc (suc (suc (suc zero)))))) m e = ap metric_byte (some_is metric.DupFiles m e)
-metric_takes (suc (suc (suc (suc (suc (suc (suc zero))))))) m e = ap metric_byte (some_is metric.Density m e)
-metric_takes (suc (suc (suc (suc (suc (suc (suc (suc b)))))))) m e = absurd (none_is m (sym (beyond_metric (suc (suc (suc (suc (suc (suc (suc (suc b)))))))) (omega arith)) ∙ e))
 
 -- ---- conditions
 
 condition_takes : (bytes : List ℕ) (x : Condition × List ℕ) → IsBytes bytes → condition_at bytes ≡ Some x → Takes bytes (condition x.0) x.1 × IsSoundCondition x.0
 unfolding condition_at
 condition_takes bytes x fits e =
-    let m = bind_some (byte_at bytes) (λ m. metric_of m.0 >>= λ metric. byte_at m.1 >>= λ o. compare_of o.0 >>= λ op. number_at w64 o.1 >>= λ error. Some (record { metric = metric; op = op; error = error.0 }, error.1)) x e in
-    let metric = bind_some (metric_of m.0.0) (λ metric. byte_at m.0.1 >>= λ o. compare_of o.0 >>= λ op. number_at w64 o.1 >>= λ error. Some (record { metric = metric; op = op; error = error.0 }, error.1)) x m.2 in
-    let o = bind_some (byte_at m.0.1) (λ o. compare_of o.0 >>= λ op. number_at w64 o.1 >>= λ error. Some (record { metric = metric.0; op = op; error = error.0 }, error.1)) x metric.2 in
-    let op = bind_some (compare_of o.0.0) (λ op. number_at w64 o.0.1 >>= λ error. Some (record { metric = metric.0; op = op; error = error.0 }, error.1)) x o.2 in
+    let m = bind_some (byte_at bytes) (λ m. metric_coded m.0 >>= λ metric. byte_at m.1 >>= λ o. compare_coded o.0 >>= λ op. number_at w64 o.1 >>= λ error. Some (record { metric = metric; op = op; error = error.0 }, error.1)) x e in
+    let metric = bind_some (metric_coded m.0.0) (λ metric. byte_at m.0.1 >>= λ o. compare_coded o.0 >>= λ op. number_at w64 o.1 >>= λ error. Some (record { metric = metric; op = op; error = error.0 }, error.1)) x m.2 in
+    let o = bind_some (byte_at m.0.1) (λ o. compare_coded o.0 >>= λ op. number_at w64 o.1 >>= λ error. Some (record { metric = metric.0; op = op; error = error.0 }, error.1)) x metric.2 in
+    let op = bind_some (compare_coded o.0.0) (λ op. number_at w64 o.0.1 >>= λ error. Some (record { metric = metric.0; op = op; error = error.0 }, error.1)) x o.2 in
     let error = bind_some (number_at w64 o.0.1) (λ error. Some (record { metric = metric.0; op = op.0; error = error.0 }, error.1)) x op.2 in
     let t0 = byte_takes bytes m.0 fits m.1 in
     let t1 = byte_takes m.0.1 o.0 t0.rest_fits o.1 in
     let t2 = number64.takes o.0.1 error.0 t1.rest_fits error.1 in
     let e12 = Takes-then m.0.1 (o.0.0 ∷ []) o.0.1 (to_be_bytes w64 error.0.0) error.0.1 t1 t2.0 in
     let whole = Takes-then bytes (m.0.0 ∷ []) m.0.1 (o.0.0 ∷ to_be_bytes w64 error.0.0) error.0.1 t0 e12 in
-    let named : Takes bytes (metric_byte metric.0 ∷ compare_byte op.0 ∷ to_be_bytes w64 error.0.0) error.0.1 = rw (← metric_takes m.0.0 metric.0 metric.1, ← compare_takes o.0.0 op.0 op.1) whole in
+    let named : Takes bytes (metric_code metric.0 ∷ compare_code op.0 ∷ to_be_bytes w64 error.0.0) error.0.1 = rw (← read_back.metric_codes.only m.0.0 metric.0 metric.1, ← read_back.compare_codes.only o.0.0 op.0 op.1) whole in
     let made : Condition × List ℕ = (record { metric = metric.0; op = op.0; error = error.0.0 }, error.0.1) in
     subst (λ (y : Condition × List ℕ). Takes bytes (condition y.0) y.1 × IsSoundCondition y.0) (some_is made x error.2) (named, record { error = t2.1 })
 
 condition_again : (c : Condition) (rest : List ℕ) → IsSoundCondition c → condition_at (condition c ++ rest) ≡ Some (c, rest)
 unfolding condition_at
-condition_again c rest sound = rw (metric_again c.metric, compare_again c.op, number64.again c.error rest sound.error) refl
+condition_again c rest sound = rw (read_back.metric_codes.found c.metric, read_back.compare_codes.found c.op, number64.again c.error rest sound.error) refl
 
 pub conditions : IsReader condition IsSoundCondition condition_at
 conditions = record { takes = condition_takes; again = condition_again }
@@ -120,8 +54,8 @@ record AreShort (t : Token) : Type 0 where
 place_takes : (bytes : List ℕ) (x : Token × List ℕ) → IsBytes bytes → place_at bytes ≡ Some x → Takes bytes (place x.0) x.1 × AreShort x.0
 unfolding place_at
 place_takes bytes x fits e =
-    let c = bind_some (byte_at bytes) (λ c. class_of c.0 >>= λ class. number_at w32 c.1 >>= λ start. number_at w32 start.1 >>= λ len. number_at w32 len.1 >>= λ first. number_at w32 first.1 >>= λ last. Some (record { class = class; start = start.0; len = len.0; first_line = first.0; last_line = last.0 }, last.1)) x e in
-    let k = bind_some (class_of c.0.0) (λ class. number_at w32 c.0.1 >>= λ start. number_at w32 start.1 >>= λ len. number_at w32 len.1 >>= λ first. number_at w32 first.1 >>= λ last. Some (record { class = class; start = start.0; len = len.0; first_line = first.0; last_line = last.0 }, last.1)) x c.2 in
+    let c = bind_some (byte_at bytes) (λ c. class_coded c.0 >>= λ class. number_at w32 c.1 >>= λ start. number_at w32 start.1 >>= λ len. number_at w32 len.1 >>= λ first. number_at w32 first.1 >>= λ last. Some (record { class = class; start = start.0; len = len.0; first_line = first.0; last_line = last.0 }, last.1)) x e in
+    let k = bind_some (class_coded c.0.0) (λ class. number_at w32 c.0.1 >>= λ start. number_at w32 start.1 >>= λ len. number_at w32 len.1 >>= λ first. number_at w32 first.1 >>= λ last. Some (record { class = class; start = start.0; len = len.0; first_line = first.0; last_line = last.0 }, last.1)) x c.2 in
     let start = bind_some (number_at w32 c.0.1) (λ start. number_at w32 start.1 >>= λ len. number_at w32 len.1 >>= λ first. number_at w32 first.1 >>= λ last. Some (record { class = k.0; start = start.0; len = len.0; first_line = first.0; last_line = last.0 }, last.1)) x k.2 in
     let len = bind_some (number_at w32 start.0.1) (λ len. number_at w32 len.1 >>= λ first. number_at w32 first.1 >>= λ last. Some (record { class = k.0; start = start.0.0; len = len.0; first_line = first.0; last_line = last.0 }, last.1)) x start.2 in
     let first = bind_some (number_at w32 len.0.1) (λ first. number_at w32 first.1 >>= λ last. Some (record { class = k.0; start = start.0.0; len = len.0.0; first_line = first.0; last_line = last.0 }, last.1)) x len.2 in
@@ -136,14 +70,14 @@ place_takes bytes x fits e =
     let e14 = Takes-then c.0.1 (to_be_bytes w32 start.0.0) start.0.1 (to_be_bytes w32 len.0.0 ++ (to_be_bytes w32 first.0.0 ++ to_be_bytes w32 last.0.0)) last.0.1 t1.0 e24 in
     let whole = Takes-then bytes (c.0.0 ∷ []) c.0.1 (to_be_bytes w32 start.0.0 ++ (to_be_bytes w32 len.0.0 ++ (to_be_bytes w32 first.0.0 ++ to_be_bytes w32 last.0.0))) last.0.1 t0 e14 in
     let made : Token × List ℕ = (record { class = k.0; start = start.0.0; len = len.0.0; first_line = first.0.0; last_line = last.0.0 }, last.0.1) in
-    let named : Takes bytes (place made.0) made.1 = subst (λ (b : ℕ). Takes bytes (b ∷ (to_be_bytes w32 start.0.0 ++ (to_be_bytes w32 len.0.0 ++ (to_be_bytes w32 first.0.0 ++ to_be_bytes w32 last.0.0)))) last.0.1) (class_takes c.0.0 k.0 k.1) whole in
+    let named : Takes bytes (place made.0) made.1 = subst (λ (b : ℕ). Takes bytes (b ∷ (to_be_bytes w32 start.0.0 ++ (to_be_bytes w32 len.0.0 ++ (to_be_bytes w32 first.0.0 ++ to_be_bytes w32 last.0.0)))) last.0.1) (read_back.class_codes.only c.0.0 k.0 k.1) whole in
     subst (λ (y : Token × List ℕ). Takes bytes (place y.0) y.1 × AreShort y.0) (some_is made x last.2) (named, record { start = t1.1; len = t2.1; first = t3.1; last = t4.1 })
 
 place_again : (t : Token) (rest : List ℕ) → AreShort t → place_at (place t ++ rest) ≡ Some (t, rest)
 unfolding place_at
 place_again t rest short =
     let regrouped : place t ++ rest ≡ class_code t.class ∷ (to_be_bytes w32 t.start ++ (to_be_bytes w32 t.len ++ (to_be_bytes w32 t.first_line ++ (to_be_bytes w32 t.last_line ++ rest)))) = refl in
-    ap place_at regrouped ∙ rw (class_again t.class, number32.again t.start (to_be_bytes w32 t.len ++ (to_be_bytes w32 t.first_line ++ (to_be_bytes w32 t.last_line ++ rest))) short.start, number32.again t.len (to_be_bytes w32 t.first_line ++ (to_be_bytes w32 t.last_line ++ rest)) short.len, number32.again t.first_line (to_be_bytes w32 t.last_line ++ rest) short.first, number32.again t.last_line rest short.last) refl
+    ap place_at regrouped ∙ rw (read_back.class_codes.found t.class, number32.again t.start (to_be_bytes w32 t.len ++ (to_be_bytes w32 t.first_line ++ (to_be_bytes w32 t.last_line ++ rest))) short.start, number32.again t.len (to_be_bytes w32 t.first_line ++ (to_be_bytes w32 t.last_line ++ rest)) short.len, number32.again t.first_line (to_be_bytes w32 t.last_line ++ rest) short.first, number32.again t.last_line rest short.last) refl
 
 pub both : (a b : Bool) → (a && b) ≡ true → (a ≡ true) × (b ≡ true)
 both true b e = (refl, e)

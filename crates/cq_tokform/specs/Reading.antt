@@ -4,17 +4,11 @@ use Rattle.std.specs.Borrow.{Bor}
 use Rattle.std.specs.declared.alloc.Global.{Global}
 use Rattle.std.specs.Int.{Width, w32, w64, byte_len, from_be_bytes}
 use Rattle.std.specs.Str.{bytes_eq, is_utf8}
+use Rattle.cq_base.specs.Tables.{lang_coded, class_coded, metric_coded, compare_coded}
 use Rattle.cq_base.specs.declared.settings.Settings.{Settings}
 use Rattle.cq_base.specs.declared.lang.Lang.{Lang}
-use Rattle.cq_base.specs.declared.lang.Lang.TheVariants as lang
 use Rattle.cq_base.specs.declared.measures.FileCounts.{FileCounts}
-use Rattle.cq_base.specs.declared.change.Metric.{Metric}
-use Rattle.cq_base.specs.declared.change.Metric.TheVariants as metric
-use Rattle.cq_base.specs.declared.change.Compare.{Compare}
-use Rattle.cq_base.specs.declared.change.Compare.TheVariants as compare
 use Rattle.cq_base.specs.declared.change.Condition.{Condition}
-use Rattle.cq_base.specs.declared.token.Class.{Class}
-use Rattle.cq_base.specs.declared.token.Class.TheVariants as class
 use Rattle.cq_base.specs.declared.token.Spelled.{Spelled}
 use Rattle.cq_base.specs.declared.token.Token.{Token}
 use Rattle.cq_func.specs.declared.function.Function.{Function}
@@ -72,42 +66,19 @@ text_at bytes = do
   n ← number_at w32 bytes
   if nat_lt (length n.1) n.0 then None else (if is_utf8 (take n.0 n.1) then Some (take n.0 n.1, drop n.0 n.1) else None)
 
-abbrev pub metric_of : ℕ → Option Metric
-metric_of b =
-    if b == 0 then Some metric.Lines
-    else (if b == 1 then Some metric.Ncloc
-    else (if b == 2 then Some metric.Files
-    else (if b == 3 then Some metric.Complexity
-    else (if b == 4 then Some metric.DupLines
-    else (if b == 5 then Some metric.DupBlocks
-    else (if b == 6 then Some metric.DupFiles
-    else (if b == 7 then Some metric.Density
-    else None)))))))
-
-abbrev pub compare_of : ℕ → Option Compare
-compare_of b = if b == 0 then Some compare.Gt else (if b == 1 then Some compare.Lt else None)
-
-abbrev pub class_of : ℕ → Option Class
-class_of b =
-    if b == 0 then Some class.Ident
-    else (if b == 1 then Some class.Word
-    else (if b == 2 then Some class.Literal
-    else (if b == 3 then Some class.Punct
-    else None)))
-
 unfoldable pub condition_at : List ℕ → Option (Condition × List ℕ)
 condition_at bytes = do
   m ← byte_at bytes
-  metric ← metric_of m.0
+  metric ← metric_coded m.0
   o ← byte_at m.1
-  op ← compare_of o.0
+  op ← compare_coded o.0
   error ← number_at w64 o.1
   Some (record { metric = metric; op = op; error = error.0 }, error.1)
 
 unfoldable pub place_at : List ℕ → Option (Token × List ℕ)
 place_at bytes = do
   c ← byte_at bytes
-  class ← class_of c.0
+  class ← class_coded c.0
   start ← number_at w32 c.1
   len ← number_at w32 start.1
   first ← number_at w32 len.1
@@ -142,18 +113,10 @@ counted_at one bytes = do
   n ← number_at w32 bytes
   items_at one n.0 n.1
 
-abbrev pub lang_of : ℕ → Option Lang
-lang_of b =
-    if b == 0 then Some lang.Any
-    else (if b == 1 then Some lang.Go
-    else (if b == 2 then Some lang.C
-    else (if b == 3 then Some lang.Java
-    else None)))
-
 unfoldable pub lang_at : List ℕ → Option (Lang × List ℕ)
 lang_at bytes = do
   b ← byte_at bytes
-  l ← lang_of b.0
+  l ← lang_coded b.0
   Some (l, b.1)
 
 unfoldable pub state_at : List ℕ → Option (State × List ℕ)

@@ -2,18 +2,14 @@
 use Rattle.std.specs.Prelude.{ℕ, Bool, if◌then◌else◌, codes, List, [], ◌∷◌, ◌++◌, length, map}
 use Rattle.std.specs.List.{flat_map}
 use Rattle.std.specs.Int.{w32, w64, to_be_bytes}
+use Rattle.cq_base.specs.Tables.{lang_code, class_code, metric_code, compare_code}
 use Rattle.cq_base.specs.declared.settings.Settings.{Settings}
-use Rattle.cq_base.specs.declared.change.Metric.{Metric}
-use Rattle.cq_base.specs.declared.change.Metric.TheVariants as metric
-use Rattle.cq_base.specs.declared.change.Compare.{Compare}
-use Rattle.cq_base.specs.declared.change.Compare.TheVariants as compare
 use Rattle.cq_base.specs.declared.change.Condition.{Condition}
 use Rattle.cq_base.specs.declared.lang.Lang.{Lang}
 use Rattle.cq_base.specs.declared.measures.FileCounts.{FileCounts}
 use Rattle.cq_base.specs.declared.token.Spelled.{Spelled}
 use Rattle.cq_base.specs.declared.token.Token.{Token}
 use Rattle.cq_func.specs.declared.function.Function.{Function}
-use Rattle.cq_work.specs.Keys.{class_code, lang_code}
 use Rattle.cq_work.specs.declared.work.State.{State}
 use Rattle.cq_work.specs.declared.work.State.TheVariants as states
 use Rattle.cq_tokform.specs.declared.contents.ContentsRecord.{ContentsRecord}
@@ -28,23 +24,9 @@ text bytes = to_be_bytes w32 (length bytes) ++ bytes
 abbrev pub counted : {A : Type 0} → (A → List ℕ) → List A → List ℕ
 counted spell xs = to_be_bytes w32 (length xs) ++ flat_map spell xs
 
-abbrev pub metric_byte : Metric → ℕ
-metric_byte metric.Lines = 0
-metric_byte metric.Ncloc = 1
-metric_byte metric.Files = 2
-metric_byte metric.Complexity = 3
-metric_byte metric.DupLines = 4
-metric_byte metric.DupBlocks = 5
-metric_byte metric.DupFiles = 6
-metric_byte metric.Density = 7
-
-abbrev pub compare_byte : Compare → ℕ
-compare_byte compare.Gt = 0
-compare_byte compare.Lt = 1
-
 -- a condition: its metric, how it compares, and its error in eight bytes
 abbrev pub condition : Condition → List ℕ
-condition c = metric_byte c.metric ∷ compare_byte c.op ∷ to_be_bytes w64 c.error
+condition c = metric_code c.metric ∷ compare_code c.op ∷ to_be_bytes w64 c.error
 
 -- where a token stands: its class, and four numbers of four bytes
 abbrev pub place : Token → List ℕ

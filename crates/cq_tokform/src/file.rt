@@ -1,10 +1,9 @@
 ghost use Rattle.std.specs.Prelude.{◌≡◌, ◌<◌, ◌^◌, length, OnOk, OnErr};
-ghost use Rattle.cq_work.specs.Keys.{lang_code};
 ghost use Rattle.cq_tokform.specs.Spelling as spell;
 ghost use Rattle.cq_tokform.specs.Spelling.{recorded};
 ghost use Rattle.cq_tokform.specs.Sound.{is_sound_file};
 ghost use Rattle.cq_work.specs.Bounds.{has_tokens};
-ghost use Rattle.cq_tokform.specs.Reading.{Gives, GivesValue, counts_at, file_at, lang_at, lang_of, state_at};
+ghost use Rattle.cq_tokform.specs.Reading.{Gives, GivesValue, counts_at, file_at, lang_at, state_at};
 ghost use Rattle.cq_tokform.specs.Writing.{AddsBytes, IsFrontOf};
 
 use crate::functions::functions_of;
@@ -29,24 +28,12 @@ pub struct FileRecord {
     pub functions: Vec<Function>,
 }
 
-fn lang_of(byte: u8) -> Option<Lang>
-    ensures { result ≡ lang_of byte }
-{
-    match byte {
-        0 => Some(Lang::Any),
-        1 => Some(Lang::Go),
-        2 => Some(Lang::C),
-        3 => Some(Lang::Java),
-        _ => None,
-    }
-}
-
 #[tactic(auto, unfolding(crate::specs::Reading::lang_at))]
 fn language_of(bytes: &[u8]) -> Result<(Lang, &[u8]), Unread>
     ensures { GivesValue (lang_at bytes.now) result }
 {
     let (byte, rest) = u8_at(bytes)?;
-    let lang = lang_of(byte).ok_or(Unread::Refused)?;
+    let lang = Lang::of_code(byte).ok_or(Unread::Refused)?;
     Ok((lang, rest))
 }
 
@@ -136,17 +123,6 @@ pub(crate) fn file_of<'a>(
     Ok((file, rest))
 }
 
-fn lang_byte(lang: Lang) -> u8
-    ensures { result ≡ lang_code lang }
-{
-    match lang {
-        Lang::Any => 0,
-        Lang::Go => 1,
-        Lang::C => 2,
-        Lang::Java => 3,
-    }
-}
-
 fn put_state(out: &mut Vec<u8>, state: State) -> Result<(), Memory>
     ensures written { OnOk result (AddsBytes (spell.outcome state) out.old out.new) }
     ensures front { OnErr result (IsFrontOf out.old.items out.new.items) }
@@ -188,7 +164,7 @@ pub fn put_front(
 {
     put_text(out, path.as_bytes())?;
     put_u64(out, change)?;
-    put_u8(out, lang_byte(lang))?;
+    put_u8(out, lang.code())?;
     put_state(out, state)?;
     put_counts(out, counts)?;
     Ok(())

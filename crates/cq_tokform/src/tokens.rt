@@ -1,38 +1,14 @@
 ghost use Rattle.std.specs.Prelude.{◌≡◌, ◌<◌, ◌^◌, length, OnOk, OnErr};
-ghost use Rattle.cq_work.specs.Keys.{class_code};
 ghost use Rattle.cq_tokform.specs.Spelling as spell;
 ghost use Rattle.cq_tokform.specs.Sound.{is_sound_token};
 ghost use Rattle.cq_work.specs.Bounds.{is_ignored};
-ghost use Rattle.cq_tokform.specs.Reading.{GivesList, GivesValue, class_of, counted_at, items_at, place_at, token_at};
+ghost use Rattle.cq_tokform.specs.Reading.{GivesList, GivesValue, counted_at, items_at, place_at, token_at};
 ghost use Rattle.cq_tokform.specs.Writing.{AddsBytes, IsFrontOf};
 
 use crate::numbers::{put_text, put_u8, put_u32, text_of, u8_at, u32_at};
 use crate::unread::Unread;
 use cq_base::{Class, Memory, Settings, Spelled, Token};
 use std::alloc::Global;
-
-fn class_of(byte: u8) -> Option<Class>
-    ensures { result ≡ class_of byte }
-{
-    match byte {
-        0 => Some(Class::Ident),
-        1 => Some(Class::Word),
-        2 => Some(Class::Literal),
-        3 => Some(Class::Punct),
-        _ => None,
-    }
-}
-
-fn class_byte(class: Class) -> u8
-    ensures { result ≡ class_code class }
-{
-    match class {
-        Class::Ident => 0,
-        Class::Word => 1,
-        Class::Literal => 2,
-        Class::Punct => 3,
-    }
-}
 
 fn is_ignored(settings: &Settings, class: Class) -> bool
     ensures { result ≡ is_ignored settings.now class }
@@ -61,7 +37,7 @@ fn place_of(bytes: &[u8]) -> Result<(Token, &[u8]), Unread>
     ensures { GivesValue (place_at bytes.now) result }
 {
     let (class, rest) = u8_at(bytes)?;
-    let class = class_of(class).ok_or(Unread::Refused)?;
+    let class = Class::of_code(class).ok_or(Unread::Refused)?;
     let (start, rest) = u32_at(rest)?;
     let (len, rest) = u32_at(rest)?;
     let (first_line, rest) = u32_at(rest)?;
@@ -131,7 +107,7 @@ fn put_place(out: &mut Vec<u8>, token: Token) -> Result<(), Memory>
     ensures written { OnOk result (AddsBytes (spell.place token) out.old out.new) }
     ensures front { OnErr result (IsFrontOf out.old.items out.new.items) }
 {
-    put_u8(out, class_byte(token.class))?;
+    put_u8(out, token.class.code())?;
     put_u32(out, token.start)?;
     put_u32(out, token.len)?;
     put_u32(out, token.first_line)?;

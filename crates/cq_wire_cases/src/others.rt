@@ -1,7 +1,7 @@
 ghost use Rattle.cq_reply.specs.Written.{IsReplyText};
 
 use crate::writing::is_written;
-use cq_base::{Measures, Memory, Text};
+use cq_base::{Measures, Memory, Refusal, Text};
 use cq_measures::{Positions, Verdict};
 use cq_reply::{Reply, Short, fixed};
 
@@ -21,20 +21,20 @@ fn reply_of(at: usize) -> Reply
     ensures { IsReplyText result }
 {
     match at {
-        0 => Reply::Json,
-        1 => Reply::Op,
-        2 => Reply::Lang,
-        3 => Reply::Path,
-        4 => Reply::TooMuchText,
-        5 => Reply::Min,
-        6 => Reply::Future(3),
-        7 => Reply::Absent,
-        8 => Reply::FullChanges,
-        9 => Reply::FullText,
+        0 => Reply::Refused(Refusal::Json),
+        1 => Reply::Refused(Refusal::Op),
+        2 => Reply::Refused(Refusal::Lang),
+        3 => Reply::Refused(Refusal::Path),
+        4 => Reply::Refused(Refusal::TooMuchText),
+        5 => Reply::Refused(Refusal::Min),
+        6 => Reply::Refused(Refusal::Future(3)),
+        7 => Reply::Refused(Refusal::Absent),
+        8 => Reply::Refused(Refusal::FullChanges),
+        9 => Reply::Refused(Refusal::FullText),
         10 => Reply::Pending(4),
         11 => Reply::Long,
         12 => Reply::Memory,
-        13 => Reply::Scope,
+        13 => Reply::Refused(Refusal::Scope),
         14 => Reply::State {
             accepted: 3,
             done: 2,
@@ -91,7 +91,7 @@ fn names_of_members_are_escaped(rt: HostRuntime) -> Result<(), Memory> {
     let alloc = rt.alloc();
     let name = Text::from_bytes(alloc, "a\"\\\n\u{1}é".as_bytes())?;
     let want = r#"{"code":3,"error":"field","name":"a\"\\\n\u0001é","ok":false}"#;
-    assert!(rt; is_written(alloc, &Reply::Field(name), want)?);
+    assert!(rt; is_written(alloc, &Reply::Refused(Refusal::Field(name)), want)?);
     Ok(())
 }
 

@@ -1,6 +1,6 @@
 ghost use Rattle.cq_drive.specs.Outcomes.{IsOutcomeText};
 
-use cq_base::{Entry, Memory};
+use cq_base::{Entry, Memory, Refusal};
 use cq_drive::{Entries, ScriptOutcome, line_of};
 use cq_reply::Reply;
 use std::alloc::Global;
@@ -34,7 +34,13 @@ fn outcomes_are_written(rt: HostRuntime) -> Result<(), Memory> {
     let greatest = "{\"ok\":true,\"value\":18446744073709551615}\n";
     assert!(rt; is_written(alloc, ScriptOutcome::Value(u64::MAX), greatest)?);
     let absent = "{\"code\":9,\"error\":\"absent\",\"ok\":false}\n";
-    assert!(rt; is_written(alloc, ScriptOutcome::Reply(Reply::Absent), absent)?);
+    assert!(rt;
+        is_written(
+            alloc,
+            ScriptOutcome::Reply(Reply::Refused(Refusal::Absent)),
+            absent
+        )?
+    );
     Ok(())
 }
 

@@ -1,7 +1,7 @@
-use crate::showing::{put_change, put_query, put_refusal};
+use crate::showing::{put_change, put_error, put_query};
 use crate::tables::{Kind, first_other, first_other_repeated, is_told};
 use cq_base::{Memory, Settings};
-use cq_request::{Refusal, Request, read_request};
+use cq_request::{ReadError, Request, read_request};
 use std::alloc::Global;
 
 /// The settings that lines are read with.
@@ -16,12 +16,12 @@ pub(crate) const SETTINGS: Settings = Settings {
     byte_limit: 65_536,
 };
 
-fn put_request(out: &mut String, read: &Result<Request, Refusal>) -> Result<(), Memory> {
+fn put_request(out: &mut String, read: &Result<Request, ReadError>) -> Result<(), Memory> {
     match read {
         Ok(Request::Change(change)) => put_change(out, change),
         Ok(Request::Query(query)) => put_query(out, query),
         Ok(Request::State) => Ok(out.push_str("state")?),
-        Err(refusal) => put_refusal(out, refusal),
+        Err(error) => put_error(out, error),
     }
 }
 

@@ -1,7 +1,7 @@
 //! What a line is read as, in words: its name, its texts in brackets, each number that is not its default, and each flag that
 //! is set.
 use cq_base::{Change, Compare, Condition, Lang, Memory, Metric, Text};
-use cq_request::{Kind, Query, Refusal};
+use cq_request::{Kind, Query, ReadError};
 use std::fmt::Write;
 use std::str;
 
@@ -131,21 +131,15 @@ pub(crate) fn put_query(out: &mut String, query: &Query) -> Result<(), Memory> {
     put(out, "since", query.since, 0)
 }
 
-pub(crate) fn put_refusal(out: &mut String, refusal: &Refusal) -> Result<(), Memory> {
-    let word = match refusal {
-        Refusal::Json => "json",
-        Refusal::Op => "op",
-        Refusal::Field(name) => {
-            out.push_str("field")?;
-            return put_text(out, name);
+pub(crate) fn put_error(out: &mut String, error: &ReadError) -> Result<(), Memory> {
+    match error {
+        ReadError::Refused(why) => {
+            out.push_str(why.word())?;
+            match why.name() {
+                Some(name) => put_text(out, name),
+                None => Ok(()),
+            }
         }
-        Refusal::Lang => "lang",
-        Refusal::Path => "path",
-        Refusal::TooMuchText => "text",
-        Refusal::Min => "min",
-        Refusal::Scope => "scope",
-        Refusal::Memory => "memory",
-    };
-    out.push_str(word)?;
-    Ok(())
+        ReadError::Memory => Err(Memory),
+    }
 }

@@ -1,9 +1,9 @@
 use crate::requests::SETTINGS;
-use crate::showing::{put_change, put_query, put_refusal};
+use crate::showing::{put_change, put_error, put_query};
 use crate::tables::{Kind, first_other, first_other_repeated, is_told};
 use cq_base::Memory;
 use cq_drive::{ScriptStep, read_step};
-use cq_request::Refusal;
+use cq_request::ReadError;
 use std::alloc::Global;
 use std::fmt::Write;
 
@@ -33,10 +33,10 @@ fn put_step(out: &mut String, step: &ScriptStep) -> Result<(), Memory> {
     Ok(())
 }
 
-fn put_read(out: &mut String, read: &Result<ScriptStep, Refusal>) -> Result<(), Memory> {
+fn put_read(out: &mut String, read: &Result<ScriptStep, ReadError>) -> Result<(), Memory> {
     match read {
         Ok(step) => put_step(out, step),
-        Err(refusal) => put_refusal(out, refusal),
+        Err(error) => put_error(out, error),
     }
 }
 

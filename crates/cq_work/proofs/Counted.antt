@@ -2,7 +2,6 @@
 use Rattle.std.proofs.Common.{◌≡◌, ℕ, List, [], ◌∷◌, refl, sym, ap}
 use Rattle.cq_base.specs.Lines.{lines_of}
 use Rattle.cq_base.specs.declared.lang.Lang.{Lang}
-use Rattle.cq_base.specs.declared.measures.FileCounts.{FileCounts}
 use Rattle.cq_base.specs.declared.token.Mark.{Mark}
 use Rattle.cq_base.specs.declared.token.Spelled.{Spelled}
 use Rattle.cq_measures.specs.Decisions.{complexity}

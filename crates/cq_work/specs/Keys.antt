@@ -2,11 +2,8 @@
 use Rattle.std.specs.Prelude.{◌≡◌, ℕ, ◌+◌, ◌*◌, ◌^◌, ◌%◌, List, [], ◌∷◌, ◌++◌, length, take, map, fold, nat_le, if◌then◌else◌}
 use Rattle.std.specs.Borrow.{Bor}
 use Rattle.cq_base.specs.declared.settings.Settings.{Settings}
-use Rattle.cq_base.specs.declared.lang.Lang.{Lang}
-use Rattle.cq_base.specs.declared.lang.Lang.TheVariants as lang
 use Rattle.cq_base.specs.declared.norm.Norm.{Norm}
-use Rattle.cq_base.specs.declared.token.Class.{Class}
-use Rattle.cq_base.specs.declared.token.Class.TheVariants as class
+use Rattle.cq_base.specs.Tables.{lang_code, class_code}
 
 -- the multiplier of Knuth's MMIX generator
 abbrev pub factor : ℕ
@@ -15,18 +12,6 @@ factor = 6364136223846793005
 -- one code more, in 64 bits
 abbrev pub folded : ℕ → ℕ → ℕ
 folded key code = (key * factor + (code + 1)) % 2 ^ 64
-
-abbrev pub lang_code : Lang → ℕ
-lang_code lang.Any = 0
-lang_code lang.Go = 1
-lang_code lang.C = 2
-lang_code lang.Java = 3
-
-abbrev pub class_code : Class → ℕ
-class_code class.Ident = 0
-class_code class.Word = 1
-class_code class.Literal = 2
-class_code class.Punct = 3
 
 -- the code of a token: its language, its class, and each byte of its text
 abbrev pub code_of : Norm → ℕ

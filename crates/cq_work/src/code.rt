@@ -1,7 +1,7 @@
 ghost use Rattle.std.specs.Prelude.{◌≡◌, fold, map, IfOk};
 ghost use Rattle.cq_work.specs.Keys as spec;
 
-use cq_base::{Class, Lang, Memory, Norm};
+use cq_base::{Memory, Norm};
 use std::alloc::Global;
 
 pub(crate) const FACTOR: u64 = 6_364_136_223_846_793_005;
@@ -13,28 +13,6 @@ pub(crate) fn folded(key: u64, code: u64) -> u64
     key.wrapping_mul(FACTOR).wrapping_add(code).wrapping_add(1)
 }
 
-fn lang_code(lang: Lang) -> u64
-    ensures { result ≡ spec.lang_code lang }
-{
-    match lang {
-        Lang::Any => 0,
-        Lang::Go => 1,
-        Lang::C => 2,
-        Lang::Java => 3,
-    }
-}
-
-fn class_code(class: Class) -> u64
-    ensures { result ≡ spec.class_code class }
-{
-    match class {
-        Class::Ident => 0,
-        Class::Word => 1,
-        Class::Literal => 2,
-        Class::Punct => 3,
-    }
-}
-
 fn bytes_folded(start: u64, bytes: &[u8]) -> u64
     ensures { result ≡ fold spec.folded start bytes.now }
 {
@@ -44,8 +22,8 @@ fn bytes_folded(start: u64, bytes: &[u8]) -> u64
 fn code_of(norm: &Norm) -> u64
     ensures { result ≡ spec.code_of norm.now }
 {
-    let lang = folded(0, lang_code(norm.lang));
-    bytes_folded(folded(lang, class_code(norm.class)), norm.text.as_bytes())
+    let lang = folded(0, norm.lang.code() as u64);
+    bytes_folded(folded(lang, norm.class.code() as u64), norm.text.as_bytes())
 }
 
 /// The code of each token.

@@ -1,7 +1,7 @@
 use Rattle.std.proofs.Common.{◌≡◌, Bool, true, cond, sym, ap, ◌∙◌}
 use Rattle.std.proofs.lemmas.Result.{IfOk-weaker}
+use Rattle.cq_base.specs.Measures.{no_measures}
 use Rattle.cq_measures.specs.Measures.{file_measures}
-use Rattle.cq_answer.specs.Rows.{no_measures}
 use Rattle.cq_answer.specs.Works.{works_in, facts_in, chosen_in}
 use Rattle.cq_answer.proofs.measuring.measures_of_file.Goals as goal
 

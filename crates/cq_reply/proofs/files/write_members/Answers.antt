@@ -6,7 +6,7 @@ use Rattle.cq_reply.proofs.files.write_members.Goals as goal
 pub returns : goal.returns
 returns c =
     let change = c.in_ok-write_number.ensures in
-    let lang = same_member (ap string c.word_of.ensures) c.in_ok-write_string.ensures in
+    let lang = same_member (ap string c.name.ensures) c.in_ok-write_string.ensures in
     let lines = c.in_ok-write_number-2.ensures in
     let path = same_member (ap string c.as_bytes.ensures) c.in_ok-write_text.ensures in
     let state = c.in_ok-write_string-2.ensures in

@@ -9,7 +9,7 @@ returns-in-Ok-clause-says c =
     subst (UnlessMemory c.read_value.result) (sym says) c.read_value.ensures.says
 
 pub returns-in-Err-clause-says : goal.returns-in-Err-clause-says
-returns-in-Err-clause-says c = no_json (value_says c.args.settings.now.chunk) c.args.line.now c.in-Err.refusal c.in-Err.ensures.refused
+returns-in-Err-clause-says c = no_json (value_says c.args.settings.now.chunk) c.args.line.now c.in-Err.error c.in-Err.ensures.refused
 
 pub returns-in-Err-clause-named : goal.returns-in-Err-clause-named
-returns-in-Err-clause-named c = unnamed c.args.line.now c.in-Err.refusal c.in-Err.ensures.refused
+returns-in-Err-clause-named c = unnamed c.args.line.now c.in-Err.error c.in-Err.ensures.refused

@@ -1,13 +1,12 @@
 use Rattle.std.proofs.Common.{◌≡◌, Ok, Err, refl, ap, sym, subst, ◌∙◌}
 use Rattle.std.proofs.lemmas.Result.{IfOk-weaker, on_err_weaker}
 use Rattle.cq_answer.proofs.Asked.{path_asked, scope_asked}
-use Rattle.cq_answer.proofs.Told.{refusal_said}
-use Rattle.cq_base.specs.declared.settings.Settings.{Settings}
 use Rattle.cq_hub.specs.Hubs.{Never}
 use Rattle.cq_hub.proofs.Growing.{grows_none}
 use Rattle.cq_reply.specs.declared.reply.Reply.TheVariants as reply
-use Rattle.cq_request.specs.Reading.{line_says}
+use Rattle.cq_request.specs.Reading.{line_says, UnlessMemory}
 use Rattle.cq_request.specs.Sound.{IsSound}
+use Rattle.cq_request.specs.declared.request.ReadError.{ReadError}
 use Rattle.cq_request.specs.declared.request.Request.TheVariants as request
 use Rattle.cq_talk.specs.Said.{Read}
 use Rattle.cq_talk.proofs.Leading.{lead_weaker}
@@ -70,17 +69,20 @@ returns-in-Ok-State-clause-replies g c =
     (λ later is. answers_as (g.H.Hub.settings c.args.server.now.hub.now) (g.H.Hub.callers c.args.server.now.hub.now) g.H.Hub.alone by (g.P.Keeper.acceptor c.args.server.now.keeper.now by) c.args.seen h later _ r _ _ says
     (is, spends_asking _ g.H.Hub.alone by _ _ _ c.state_reply.ensures.asked (AreViewings (Read (Ok request.State)) r) refl h later is.asks))) c.state_reply.ensures.replies
 
-pub returns-in-Ok-refused_as-clause-replies : goal.returns-in-Ok-refused_as-clause-replies
-returns-in-Ok-refused_as-clause-replies g c = λ by h stands closed named. record {
-  after = h;
-  stands = stands;
-  closed = closed;
-  holds = answers_as (g.H.Hub.settings c.args.server.now.hub.now) (g.H.Hub.callers c.args.server.now.hub.now) g.H.Hub.alone by (g.P.Keeper.acceptor c.args.server.now.keeper.now by) c.args.seen h h _ c.in-Ok-refused_as.reply _ _ (refusal_said c.in-Err.refusal (line_says c.args.server.now.keyer.now.settings.chunk c.args.line.now) c.in-Ok-refused_as.ensures.told c.in-Err.ensures.says)
-      ((c.in-Ok-refused_as.ensures.reply, grows_none g.H.Hub.alone by Never h), spends_none _ by (AreViewings (Read (Err c.in-Err.refusal)) c.in-Ok-refused_as.reply) h _ _ refl);
-}
+pub returns-in-Err-Refused-clause-replies : goal.returns-in-Err-Refused-clause-replies
+returns-in-Err-Refused-clause-replies g c =
+    let said = line_says c.args.server.now.keyer.now.settings.chunk c.args.line.now in
+    let says : said ≡ Err c.in-Err-Refused.refusal = subst (λ (e : ReadError). UnlessMemory (Err e) said) c.in-Err-Refused.field-0-is c.in-Err-Refused.ensures.says in
+    λ by h stands closed named. record {
+      after = h;
+      stands = stands;
+      closed = closed;
+      holds = answers_as (g.H.Hub.settings c.args.server.now.hub.now) (g.H.Hub.callers c.args.server.now.hub.now) g.H.Hub.alone by (g.P.Keeper.acceptor c.args.server.now.keeper.now by) c.args.seen h h _ (reply.Refused c.in-Err-Refused.refusal) _ _ says
+          ((refl, grows_none g.H.Hub.alone by Never h), spends_none _ by (AreViewings (Read (Err c.in-Err-Refused.refusal)) (reply.Refused c.in-Err-Refused.refusal)) h _ _ refl);
+    }
 
-pub returns-in-Err-refused_as-clause-refused : goal.returns-in-Err-refused_as-clause-refused
-returns-in-Err-refused_as-clause-refused g c = λ by h stands closed named. record {
+pub returns-in-Err-Memory-clause-refused : goal.returns-in-Err-Memory-clause-refused
+returns-in-Err-Memory-clause-refused g c = λ by h stands closed named. record {
   after = h;
   stands = stands;
   closed = closed;

@@ -7,3 +7,9 @@ written-requires-clause-in_range g c κs lives = subst IsInRange (sym c.plain-ke
 
 pub written-requires-clause-hub_settings : goal.written-requires-clause-hub_settings
 written-requires-clause-hub_settings g c κs lives = c.in_ok-made.ensures.settings ∙ sym c.plain-keyer.ensures
+
+pub written-_left-requires-clause-in_range : goal.written-_left-requires-clause-in_range
+written-_left-requires-clause-in_range g c κs lives = subst IsInRange (sym c.plain-keyer.ensures) c.requires.in_range
+
+pub written-_left-requires-clause-hub_settings : goal.written-_left-requires-clause-hub_settings
+written-_left-requires-clause-hub_settings g c κs lives = c.in_ok-made.ensures.settings ∙ sym c.plain-keyer.ensures

@@ -1,4 +1,4 @@
-use Rattle.std.proofs.Common.{rules, arith, sym, subst, ◌≡◌, ◌%◌, ◌^◌, length, ap, ◌∙◌}
+use Rattle.std.proofs.Common.{rules, arith, length, ap}
 use Rattle.std.proofs.lemmas.List.{append-nil}
 use Rattle.cq_thread_cases.proofs.telling.how_often.Goals as goal
 

@@ -1,4 +1,4 @@
-use Rattle.std.proofs.Common.{rules, arith, refl, sym, subst, ◌+◌, ◌≤◌}
+use Rattle.std.proofs.Common.{rules, refl, sym, subst, ◌+◌, ◌≤◌}
 use Rattle.cq_cells.specs.Counts.{least_of}
 use Rattle.cq_cells.proofs.Counting.{one_more, upper_bits}
 use Rattle.cq_thread_cases.proofs.telling.tell_after_one.Goals as goal

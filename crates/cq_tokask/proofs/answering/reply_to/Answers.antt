@@ -1,16 +1,16 @@
-use Rattle.std.proofs.Common.{◌≡◌, ◌∙◌, Ok, Result, refl, sym, ap, subst}
+use Rattle.std.proofs.Common.{◌≡◌, ◌∙◌, Ok, Err, Result, refl, sym, ap, subst}
 use Rattle.std.proofs.lemmas.Result.{IfOk-weaker}
 use Rattle.cq_answer.proofs.Asked.{path_asked, scope_asked}
-use Rattle.cq_answer.proofs.Told.{refusal_said}
 use Rattle.cq_reply.specs.declared.reply.Reply.TheVariants as reply
-use Rattle.cq_request.specs.Reading.{line_says}
+use Rattle.cq_request.specs.Reading.{line_says, UnlessMemory}
 use Rattle.cq_request.specs.Sound.{IsSound}
-use Rattle.cq_request.specs.declared.request.Refusal.{Refusal}
+use Rattle.cq_base.specs.declared.refusal.Refusal.{Refusal}
+use Rattle.cq_base.specs.declared.refusal.Refusal.TheVariants as refusal
+use Rattle.cq_request.specs.declared.request.ReadError.{ReadError}
 use Rattle.cq_request.specs.declared.request.Request.{Request}
 use Rattle.cq_request.specs.declared.request.Request.TheVariants as request
 use Rattle.cq_talk.specs.Said.{Read}
 use Rattle.cq_tokask.specs.Asked.{AnswersSaid}
-use Rattle.cq_tokask.proofs.Said.{both_ok}
 use Rattle.cq_tokask.proofs.answering.reply_to.Goals as goal
 
 pub query_reply-requires-clause-path : goal.query_reply-requires-clause-path
@@ -31,14 +31,15 @@ returns-in-Ok-Query-clause-answers g c =
 pub returns-in-Ok-Change-clause-answers : goal.returns-in-Ok-Change-clause-answers
 returns-in-Ok-Change-clause-answers g c =
     let says = c.in-Ok-Change.ensures.says ∙ ap Ok c.in-Ok-Change.field-0-is in
-    subst (λ (x : Result Request Refusal). AnswersSaid c.args.snapshot.now (Read x) reply.Op) (sym says) refl
+    subst (λ (x : Result Request Refusal). AnswersSaid c.args.snapshot.now (Read x) (reply.Refused refusal.Op)) (sym says) refl
 
 pub returns-in-Ok-State-clause-answers : goal.returns-in-Ok-State-clause-answers
 returns-in-Ok-State-clause-answers g c =
     let says = c.in-Ok-State.ensures.says ∙ ap Ok c.in-Ok-State.field-0-is in
-    subst (λ (x : Result Request Refusal). AnswersSaid c.args.snapshot.now (Read x) reply.Op) (sym says) refl
+    subst (λ (x : Result Request Refusal). AnswersSaid c.args.snapshot.now (Read x) (reply.Refused refusal.Op)) (sym says) refl
 
-pub returns-in-Err-clause-answers : goal.returns-in-Err-clause-answers
-returns-in-Err-clause-answers g c =
-    both_ok c.refused_as.result _ _ _ (λ r is told.
-    subst (λ (x : Result Request Refusal). AnswersSaid c.args.snapshot.now (Read x) r) (sym (refusal_said c.in-Err.refusal (line_says c.args.settings.now.chunk c.args.line.now) told c.in-Err.ensures.says)) is) c.refused_as.ensures.reply c.refused_as.ensures.told
+pub returns-in-Err-Refused-clause-answers : goal.returns-in-Err-Refused-clause-answers
+returns-in-Err-Refused-clause-answers g c =
+    let said = line_says c.args.settings.now.chunk c.args.line.now in
+    let says : said ≡ Err c.in-Err-Refused.refusal = subst (λ (e : ReadError). UnlessMemory (Err e) said) c.in-Err-Refused.field-0-is c.in-Err-Refused.ensures.says in
+    subst (λ (x : Result Request Refusal). AnswersSaid c.args.snapshot.now (Read x) (reply.Refused c.in-Err-Refused.refusal)) (sym says) refl

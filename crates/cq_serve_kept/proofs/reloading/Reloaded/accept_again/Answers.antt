@@ -1,7 +1,7 @@
 use Rattle.std.proofs.Common.{◌≡◌, Ok, Result, rules, subst}
 use Rattle.std.proofs.lemmas.Result.{IfOk-weaker}
 use Rattle.cq_base.specs.declared.change.Change.{Change}
-use Rattle.cq_request.specs.declared.request.Refusal.{Refusal}
+use Rattle.cq_base.specs.declared.refusal.Refusal.{Refusal}
 use Rattle.cq_request.specs.declared.request.Request.{Request}
 use Rattle.cq_request.specs.declared.request.Request.TheVariants as request
 use Rattle.cq_serve_kept.specs.Reloads.{TakesAfter}

@@ -2,7 +2,7 @@ use Rattle.std.proofs.Common.{refl, ap}
 use Rattle.serde_json.specs.Data.{string}
 use Rattle.cq_reply.proofs.Adding.{wrote, then, at_last, same_member}
 use Rattle.cq_reply.proofs.Read.{object_read}
-use Rattle.cq_reply.proofs.refusal.write_field.Goals as goal
+use Rattle.cq_reply.proofs.refusal.write_named.Goals as goal
 
 pub returns : goal.returns
 returns c =

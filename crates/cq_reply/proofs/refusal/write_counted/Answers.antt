@@ -1,7 +1,7 @@
 use Rattle.std.proofs.Common.{refl}
 use Rattle.cq_reply.proofs.Adding.{wrote, then, at_last}
 use Rattle.cq_reply.proofs.Read.{object_read}
-use Rattle.cq_reply.proofs.refusal.write_future.Goals as goal
+use Rattle.cq_reply.proofs.refusal.write_counted.Goals as goal
 
 pub returns : goal.returns
 returns c =
