@@ -11,8 +11,8 @@ use Rattle.cq_chain.specs.Passes.{BoardPass}
 use Rattle.cq_history.specs.State.{accepted}
 use Rattle.cq_io.specs.Causes.{Rose}
 use Rattle.cq_io.specs.declared.sink.Sink as sink
-use Rattle.cq_keep.specs.LineLogs.{BreaksOff, KeepsLine, Logged}
-use Rattle.cq_keep.specs.Saying.{Says}
+use Rattle.cq_lines.specs.LineLogs.{BreaksOff, KeepsLine, Logged}
+use Rattle.cq_talk.specs.Saying.{Says}
 use Rattle.cq_keeper.specs.Firsts.{IsFirst, IsFirstAfter, IsFirstStill}
 use Rattle.cq_keeper.specs.Kept.{SayAll, HasLines, IsCutOff, IsLogOf}
 use Rattle.cq_keeper.specs.declared.naming.LogOf as log_of

@@ -8,10 +8,10 @@ use Rattle.cq_chain.specs.Passes.{BoardCells, BoardPass}
 use Rattle.cq_history.specs.State.{accepted}
 use Rattle.cq_io.specs.Causes.{Rose}
 use Rattle.cq_io.specs.declared.sink.Sink as sink
-use Rattle.cq_keep.specs.Saying.{Says}
-use Rattle.cq_keep.specs.LineLogs.{Logged}
-use Rattle.cq_keep.specs.declared.unkept.Unkept.{Unkept}
-use Rattle.cq_keep.specs.declared.unkept.Unkept.TheVariants as unkept
+use Rattle.cq_talk.specs.Saying.{Says}
+use Rattle.cq_lines.specs.LineLogs.{Logged}
+use Rattle.cq_talk.specs.declared.unkept.Unkept.{Unkept}
+use Rattle.cq_talk.specs.declared.unkept.Unkept.TheVariants as unkept
 use Rattle.cq_keeper.specs.Firsts as firsts
 use Rattle.cq_keeper.specs.declared.naming.LogOf as log_of
 use Rattle.cq_lines.specs.Pieces.{ended}

@@ -1,8 +1,8 @@
 ghost use Rattle.std.specs.Prelude.{◌≡◌, true, false, Err, IfOk, IfErr, IfSome, IsNone};
 ghost use Rattle.cq_base.specs.Changes.{IsSoundChange};
-ghost use Rattle.cq_keep.specs.LineLogs.{log_at};
-ghost use Rattle.cq_keep.specs.Saying.{Says};
-ghost use Rattle.cq_keep.specs.declared.unkept.Unkept.TheVariants as unkept;
+ghost use Rattle.cq_lines.specs.LineLogs.{log_at};
+ghost use Rattle.cq_talk.specs.Saying.{Says};
+ghost use Rattle.cq_talk.specs.declared.unkept.Unkept.TheVariants as unkept;
 ghost use Rattle.cq_keeper.specs.Firsts.{AcceptsByFirst};
 ghost use Rattle.cq_keeper.specs.Kept.{IsLogOf, RefusesKept};
 ghost use Rattle.cq_shared.specs.Answers.{IsTold};
@@ -14,9 +14,10 @@ use cq_base::Change;
 use cq_board::Asked;
 use cq_chain::Pass;
 use cq_io::{Failed, Sink};
-use cq_keep::{LineLog, Unkept};
+use cq_lines::LineLog;
 use cq_shard::Indexed;
 use cq_shared::Shared;
+use cq_talk::Unkept;
 use std::alloc::Global;
 use std::marker::{Model, PhantomData};
 use std::sync::Wait;
@@ -32,7 +33,7 @@ pub struct Locked<'a, W: Indexed, K: Sink, N: LogOf> {
 
 impl<'a, W: Indexed, K: Sink, N: LogOf> Model for Locked<'a, W, K, N> {
     ghost use Rattle.std.specs.Prelude.{◌≡◌, Bool};
-    ghost use Rattle.cq_keep.specs.LineLogs.{log_at};
+    ghost use Rattle.cq_lines.specs.LineLogs.{log_at};
     ghost use Rattle.cq_keeper.specs.Kept.{IsLogOf};
 
     ghost Value = { Bool };

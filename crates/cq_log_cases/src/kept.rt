@@ -1,6 +1,6 @@
 use cq_base::Memory;
 use cq_io::MemSink;
-use cq_keep::LineLog;
+use cq_lines::LineLog;
 use std::alloc::Global;
 
 // Whether this is what a log has after three lines, of which so many could be kept, if a write of its sink fails.

@@ -12,8 +12,8 @@ use Rattle.cq_history.specs.Lawful.{Lawful}
 use Rattle.cq_history.specs.State.{accepted}
 use Rattle.cq_io.specs.Causes.{Rose}
 use Rattle.cq_io.specs.declared.sink.Sink as sink
-use Rattle.cq_keep.specs.LineLogs.{log_at}
-use Rattle.cq_keep.specs.Saying.{Says}
+use Rattle.cq_lines.specs.LineLogs.{log_at}
+use Rattle.cq_talk.specs.Saying.{Says}
 use Rattle.cq_keeper.specs.Firsts.{IsFirst}
 use Rattle.cq_keeper.specs.Kept.{IsLogOf, SayAll}
 use Rattle.cq_keeper.specs.declared.naming.LogOf as log_of

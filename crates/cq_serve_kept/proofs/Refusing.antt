@@ -4,8 +4,8 @@ use Rattle.std.specs.Prelude.{IfSome}
 use Rattle.cq_base.specs.declared.change.Change.{Change}
 use Rattle.cq_board.specs.declared.answers.Refused.{Refused}
 use Rattle.cq_chain.specs.Passes.{BoardPass}
-use Rattle.cq_keep.specs.declared.unkept.Unkept.{Unkept}
-use Rattle.cq_keep.specs.declared.unkept.Unkept.TheVariants as unkept
+use Rattle.cq_talk.specs.declared.unkept.Unkept.{Unkept}
+use Rattle.cq_talk.specs.declared.unkept.Unkept.TheVariants as unkept
 use Rattle.cq_keeper.specs.Firsts.{Refuses, SeesMore}
 use Rattle.cq_keeper.specs.Kept.{RefusesKept}
 use Rattle.cq_shared.specs.declared.shared.Shared.{Shared}

@@ -1,16 +1,17 @@
 ghost use Rattle.std.specs.Prelude.{◌≡◌, true};
-ghost use Rattle.cq_keep.specs.LineLogs.{log_at};
+ghost use Rattle.cq_lines.specs.LineLogs.{log_at};
 ghost use Rattle.cq_keeper.specs.Kept.{IsLogOf};
 
 use cq_base::Change;
 use cq_board::Asked;
 use cq_chain::Pass;
 use cq_io::Sink;
-use cq_keep::{LineLog, Unkept};
 use cq_keeper::{Locked, LogOf};
+use cq_lines::LineLog;
 use cq_session::Keeper;
 use cq_shard::Indexed;
 use cq_shared::Shared;
+use cq_talk::Unkept;
 use std::alloc::Global;
 use std::sync::{Mutex, Wait};
 

@@ -7,8 +7,8 @@ use Rattle.cq_hub.specs.Answers.{Refuses, SeesMore}
 use Rattle.cq_hub.specs.Hubs.{Extends, Never}
 use Rattle.cq_hub.specs.Says.{IsAcceptedAs}
 use Rattle.cq_hub.specs.declared.hub.Hub.{Ghosts}
-use Rattle.cq_keep.specs.declared.unkept.Unkept.{Unkept}
-use Rattle.cq_keep.specs.declared.unkept.Unkept.TheVariants as unkept
+use Rattle.cq_talk.specs.declared.unkept.Unkept.{Unkept}
+use Rattle.cq_talk.specs.declared.unkept.Unkept.TheVariants as unkept
 
 -- a caller's changes are accepted by itself
 abbrev pub itself : ℕ → ℕ

@@ -2,15 +2,15 @@ ghost use Rattle.std.specs.Prelude.{◌≡◌, ℕ, Bool, Err, IfOk, IfErr, IfSo
 ghost use Rattle.cq_base.specs.Changes.{IsSoundChange};
 ghost use Rattle.cq_hub.specs.Answers.{IsTold};
 ghost use Rattle.cq_hub.specs.Hubs.{IsPassOf};
-ghost use Rattle.cq_keep.specs.Saying.{Says};
-ghost use Rattle.cq_keep.specs.declared.unkept.Unkept.TheVariants as unkept;
+ghost use Rattle.cq_talk.specs.Saying.{Says};
+ghost use Rattle.cq_talk.specs.declared.unkept.Unkept.TheVariants as unkept;
 ghost use Rattle.cq_session.specs.Keeping.{AcceptsBy, RefusesKept};
 
 use cq_base::Change;
 use cq_board::Asked;
 use cq_hub::Hub;
-use cq_keep::Unkept;
 use cq_shard::Indexed;
+use cq_talk::Unkept;
 use std::alloc::Global;
 
 /// Who accepts the changes of sessions, and keeps the line of each before its reply is written.

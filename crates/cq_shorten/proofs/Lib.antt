@@ -1,3 +1,4 @@
+mod Renumbered
 mod Deciding
 mod Taking
 mod Easing

@@ -21,7 +21,7 @@ use Rattle.cq_log.proofs.Growing.{none_stays}
 use Rattle.cq_log.proofs.Mended.{continued}
 use Rattle.cq_log.specs.Laws.{ContinueWith, IsMended}
 use Rattle.cq_log.specs.Logs.{Front, front_of, no_front, is_accepted, is_torn, after_line, after_torn, after_whole, onto, held_by}
-use Rattle.cq_needed.specs.Needed.{needed, needed_changes, needed_lines}
+use Rattle.cq_shorten.specs.Needed.{needed, needed_changes, needed_lines}
 use Rattle.cq_request.specs.declared.request.Request.TheVariants as request
 use Rattle.cq_shorten.proofs.Deciding.{accepted_without, none_passed}
 use Rattle.cq_talk.proofs.Causing.{changes_new}

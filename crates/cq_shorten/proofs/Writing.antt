@@ -15,7 +15,7 @@ use Rattle.cq_history.specs.Gone.{IsKept}
 use Rattle.cq_history.specs.State.{Slot}
 use Rattle.cq_kept.specs.Accepted.{Accepted, Holds, HoldsNoneBehind, IsNextHeld}
 use Rattle.cq_lines.specs.Pieces.{ended}
-use Rattle.cq_needed.specs.Needed.{needed, needed_lines}
+use Rattle.cq_shorten.specs.Needed.{needed, needed_lines}
 use Rattle.cq_shorten.specs.Keeping.{Has, HasLine, SentUpTo, needed_up_to}
 use Rattle.cq_shorten.specs.declared.held.Shortener.{Shortener}
 use Rattle.cq_talk.proofs.Causing.{changes_new}

@@ -12,7 +12,7 @@ use Rattle.cq_history.specs.State.{new_slot}
 use Rattle.cq_io.specs.Sending.{Sends}
 use Rattle.cq_kept.specs.Accepted.{accepted_from, Holds}
 use Rattle.cq_lines.specs.Pieces.{ended}
-use Rattle.cq_needed.specs.Needed.{needed, needed_lines}
+use Rattle.cq_shorten.specs.Needed.{needed, needed_lines}
 use Rattle.cq_shorten.specs.declared.held.Shortener.{Shortener}
 use Rattle.cq_shorten.specs.declared.nothing.Unworked.{Unworked}
 

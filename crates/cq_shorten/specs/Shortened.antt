@@ -10,7 +10,7 @@ use Rattle.cq_lines.specs.Pieces.{ended}
 use Rattle.cq_lines.specs.Runs.{AreWhole}
 use Rattle.cq_lines.specs.declared.ending.End.TheVariants as end
 use Rattle.cq_log.specs.Logs.{front_of, held_in, held_by}
-use Rattle.cq_needed.specs.Needed.{needed_changes, needed_lines}
+use Rattle.cq_shorten.specs.Needed.{needed_changes, needed_lines}
 use Rattle.cq_shorten.specs.declared.shortening.Shortened.{Shortened}
 use Rattle.cq_shorten.specs.declared.shortening.Shortened.TheVariants as shortened
 

@@ -11,6 +11,6 @@ mod nothing;
 mod shortening;
 
 pub use held::Shortener;
-pub use laws::a_short_log_is_a_log;
+pub use laws::{a_short_log_is_a_log, it_is_needed_as_worked_out, what_is_needed_leaves_the_same};
 pub use nothing::Unworked;
 pub use shortening::{Shortened, shorten};

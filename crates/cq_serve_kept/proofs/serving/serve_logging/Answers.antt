@@ -1,7 +1,7 @@
 use Rattle.std.proofs.Common.{◌≡◌, Bool, false, [], sym, subst, rules}
 use Rattle.cq_base.specs.declared.settings.Settings.{Settings}
 use Rattle.cq_history.specs.State.{accepted}
-use Rattle.cq_keep.specs.LineLogs.{log_at}
+use Rattle.cq_lines.specs.LineLogs.{log_at}
 use Rattle.cq_keeper.specs.Kept.{IsLogOf}
 use Rattle.cq_serve_kept.specs.Continued.{ContinuesBroken, ContinuesWhole}
 use Rattle.cq_serve_kept.proofs.Ending.{all_written, log_begins, one_cut_off}

@@ -1,8 +1,8 @@
 use Rattle.std.proofs.Common.{◌≡◌, refl, rules, subst}
 use Rattle.cq_board.specs.declared.answers.Refused.{Refused}
 use Rattle.cq_board.specs.declared.answers.Refused.TheVariants as refused
-use Rattle.cq_keep.specs.declared.unkept.Unkept.{Unkept}
-use Rattle.cq_keep.specs.declared.unkept.Unkept.TheVariants as unkept
+use Rattle.cq_talk.specs.declared.unkept.Unkept.{Unkept}
+use Rattle.cq_talk.specs.declared.unkept.Unkept.TheVariants as unkept
 use Rattle.cq_session.specs.Keeping.{RefusesKept}
 use Rattle.cq_talk.proofs.Changing.{accepted_row, refused_row}
 use Rattle.cq_talk.proofs.Leading.{lead_accepted, lead_none}

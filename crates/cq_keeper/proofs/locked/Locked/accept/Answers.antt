@@ -1,6 +1,6 @@
 use Rattle.std.proofs.Common.{refl, ◌∙◌, subst}
-use Rattle.cq_keep.specs.LineLogs.{log_at}
-use Rattle.cq_keep.specs.Saying.{Says}
+use Rattle.cq_lines.specs.LineLogs.{log_at}
+use Rattle.cq_talk.specs.Saying.{Says}
 use Rattle.cq_keeper.proofs.Writing.{first_of, refused_still, kept_more, broken_off}
 use Rattle.cq_shared.proofs.Calling.{stays}
 use Rattle.cq_keeper.proofs.locked.Locked.accept.Goals as goal

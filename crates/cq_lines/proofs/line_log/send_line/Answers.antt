@@ -1,6 +1,6 @@
 use Rattle.std.proofs.Common.{◌≡◌, [], ◌∷◌, rules}
-use Rattle.cq_keep.proofs.Sent.{then_feed}
-use Rattle.cq_keep.proofs.line_log.send_line.Goals as goal
+use Rattle.cq_lines.proofs.Sent.{then_feed}
+use Rattle.cq_lines.proofs.line_log.send_line.Goals as goal
 
 pub returns-clause-bytes : goal.returns-clause-bytes
 returns-clause-bytes g c =

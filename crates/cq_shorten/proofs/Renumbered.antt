@@ -14,7 +14,7 @@ use Rattle.cq_history.specs.Changes.{no_change}
 use Rattle.cq_history.specs.Files.{Source, without_file, with_file, place_of, is_before, files_after, files_from, files_of, conditions_after, conditions_from, conditions_of}
 use Rattle.cq_history.specs.Gone.{is_gone}
 use Rattle.cq_history.specs.KeptFiles.{numbered, files_by, conditions_by, kept_up_to}
-use Rattle.cq_needed.specs.Needed.{needed_changes, unnumbered, LeavesTheSame}
+use Rattle.cq_shorten.specs.Needed.{needed_changes, unnumbered, LeavesTheSame}
 
 -- ---- lists
 

@@ -3,7 +3,7 @@ use Rattle.std.specs.Prelude.{◌≡◌, ℕ, List, [], ◌∷◌, codes}
 use Rattle.cq_base.specs.declared.change.Change.{Change}
 use Rattle.cq_base.specs.declared.change.Change.TheVariants.{Put, Drop, Gate}
 use Rattle.cq_base.specs.declared.lang.Lang.TheVariants.{Any}
-use Rattle.cq_needed.specs.Needed.{needed, needed_changes, needed_lines}
+use Rattle.cq_shorten.specs.Needed.{needed, needed_changes, needed_lines}
 
 abbrev put : List ℕ → List ℕ → Change
 put path text = Put (codes "p") path Any text

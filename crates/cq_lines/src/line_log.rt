@@ -2,7 +2,7 @@ ghost use Rattle.std.specs.Prelude.{◌≡◌, OnOk, OnErr};
 ghost use Rattle.cq_io.specs.Causes.{HasCause};
 ghost use Rattle.cq_io.specs.Sending.{Sends};
 ghost use Rattle.cq_lines.specs.Pieces.{ended};
-ghost use Rattle.cq_keep.specs.LineLogs.{KeepsLine, BreaksOff, log_at};
+ghost use Rattle.cq_lines.specs.LineLogs.{KeepsLine, BreaksOff, log_at};
 
 use cq_io::{Failed, Sink, send};
 

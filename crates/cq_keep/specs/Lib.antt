@@ -1,2 +1,0 @@
-pub mod LineLogs
-pub mod Saying

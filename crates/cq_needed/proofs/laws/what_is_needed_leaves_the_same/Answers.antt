@@ -1,5 +1,0 @@
-use Rattle.cq_needed.proofs.Renumbered.{leaves_the_same}
-use Rattle.cq_needed.proofs.laws.what_is_needed_leaves_the_same.Goals as goal
-
-pub returns : goal.returns
-returns c = leaves_the_same
