@@ -5,11 +5,10 @@ use Rattle.cq_base.specs.declared.change.Change.{Change}
 use Rattle.cq_base.specs.declared.settings.Settings.{Settings}
 use Rattle.cq_lines.specs.Pieces.{line_limit}
 use Rattle.cq_log.specs.Logs.{Front, front_of, is_accepted, after_whole, after_torn, onto, held_in}
-use Rattle.cq_log.specs.Takers.{HasHeld, TakesOne, TakesLine, IsOther, mended_by}
+use Rattle.cq_log.specs.Takers.{HasHeld, IsCutOff, IsOther, TakesLine, TakesOne, mended_by}
 use Rattle.cq_log.proofs.Growing.{held_push}
 use Rattle.cq_request.specs.Reading.{line_says}
 use Rattle.cq_base.specs.declared.refusal.Refusal.{Refusal}
-use Rattle.cq_base.specs.declared.refusal.Refusal.TheVariants as refusal
 use Rattle.cq_request.specs.declared.request.Request.{Request}
 use Rattle.cq_request.specs.declared.request.Request.TheVariants as request
 use Rattle.cq_talk.specs.Said.{Said, TooLong, Read, said}
@@ -32,11 +31,17 @@ module _ {T : Type 0} (Has : T → Settings → List (List ℕ) → List Change 
       → held_in set (lines ++ line ∷ []) ≡ after_whole set (front_of own changes false) line says
   whole_held lines line own changes says is here = next_held lines line (front_of own changes false) is ∙ ap (after_whole set (front_of own changes false) line) here
 
-  pub cut_off : (line : List ℕ) (t : T) → length line ≤ line_limit → line_says set.chunk line ≡ Err refusal.Json → TakesLine Has set false line t t (Some true)
-  cut_off line t short is lines has = record {
+  torn_held : (front : Front) (line : List ℕ) (says : Result Request Refusal) → IsCutOff says → after_whole set front line (Read says) ≡ Some (front_of front.own front.changes true)
+  torn_held front line (Ok request) cut = absurd cut
+  torn_held front line (Err why) cut = ap (λ (b : Bool). if b then Some (front_of front.own front.changes true) else None) cut
+
+  pub cut_off : (line : List ℕ) (t : T) → length line ≤ line_limit → IsCutOff (line_says set.chunk line) → TakesLine Has set false line t t (Some true)
+  cut_off line t short cut lines has = record {
     own = has.own;
     changes = has.changes;
-    held = whole_held lines line has.own has.changes (Read (Err refusal.Json)) has.held (was_read set.chunk line (Err refusal.Json) short is);
+    held =
+        whole_held lines line has.own has.changes (Read (line_says set.chunk line)) has.held (was_read set.chunk line (line_says set.chunk line) short refl)
+        ∙ torn_held (front_of has.own has.changes false) line (line_says set.chunk line) cut;
     has = has.has;
   }
 

@@ -15,7 +15,6 @@ use Rattle.cq_log.specs.declared.reading.LogLine.TheVariants as said_by
 use Rattle.cq_log.specs.declared.taking.Taken.{Taken}
 use Rattle.cq_log.specs.declared.taking.Taken.TheVariants as taken
 use Rattle.cq_base.specs.declared.refusal.Refusal.{Refusal}
-use Rattle.cq_base.specs.declared.refusal.Refusal.TheVariants as refusal
 use Rattle.cq_request.specs.declared.request.Request.{Request}
 use Rattle.cq_request.specs.declared.request.Request.TheVariants as request
 
@@ -108,6 +107,11 @@ IsOther (Ok (request.Query query)) = Unit {0}
 IsOther (Ok request.State) = Unit {0}
 IsOther (Err why) = is_torn why ≡ false
 
+-- it was cut off
+abbrev pub IsCutOff : Result Request Refusal → Type 0
+IsCutOff (Ok request) = ⊥
+IsCutOff (Err why) = is_torn why ≡ true
+
 -- the change of a line is sound
 abbrev pub IsSoundLine : LogLine → Type 0
 IsSoundLine (said_by.Change change) = IsSoundChange change
@@ -117,5 +121,5 @@ IsSoundLine said_by.Other = Unit {0}
 -- what a line of a log is
 abbrev pub IsLogLine : Result Request Refusal → LogLine → Type 0
 IsLogLine says (said_by.Change change) = says ≡ Ok (request.Change change)
-IsLogLine says said_by.Torn = says ≡ Err refusal.Json
+IsLogLine says said_by.Torn = IsCutOff says
 IsLogLine says said_by.Other = IsOther says

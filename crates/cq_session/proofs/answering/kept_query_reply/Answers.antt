@@ -41,27 +41,29 @@ returns-in-Err-clause-refused g c = λ by h stands closed named.
     let led = asked_led _ (g.H.Hub.settings c.args.server.now.hub.now) _ _ _ by c.args.seen c.args.query.now h _ c.in-Some.asked call closed named in
     help_given_up _ _ _ _ _ by c.args.seen c.args.query.now h _ c.in-Some.asked call closed named (let x = c.if-query-asked.false in omega (arith, x)) c.if-query.true _ (c.in-Err.ensures.refused by led.after led.stands led.closed led.holds.0) _ _ _ (c.in-Err.ensures.asked ∙ c.in-Some.ensures.asked)
 
-pub returns-then-max-asked-clause-replies : goal.returns-then-max-asked-clause-replies
-returns-then-max-asked-clause-replies g c = λ by h stands closed named.
-    is_pending _ _ _ _ _ by c.args.seen c.args.query.now h _ c.in-Some.asked (c.in-Some.ensures.asks by h stands) closed named (let x = c.if-query-asked.false in omega (arith, x)) c.if-query.false (let x = c.if-max-asked.true in let y = c.max.ensures in omega (arith, x, y)) _ _ _ c.in-Some.ensures.asked
+pub returns-then-floor-asked-clause-replies : goal.returns-then-floor-asked-clause-replies
+returns-then-floor-asked-clause-replies g c = λ by h stands closed named.
+    is_pending _ _ _ _ _ by c.args.seen c.args.query.now h _ c.in-Some.asked (c.in-Some.ensures.asks by h stands) closed named (let x = c.if-query-asked.false in omega (arith, x)) c.if-query.false (let x = c.if-floor-asked.true in let y = c.max-floor.ensures in omega (arith, x, y)) _ _ _ c.in-Some.ensures.asked
 
 pub view_reply-requires-2-clause-ready : goal.view_reply-requires-2-clause-ready
 view_reply-requires-2-clause-ready g c κs lives =
     let r = c.requires.closed in
     let led = asked_led _ (g.H.Hub.settings c.args.server.now.hub.now) _ _ _ r.0 c.args.seen c.args.query.now r.1 _ c.in-Some.asked (c.in-Some.ensures.asks r.0 r.1 r.2) r.3.0 r.3.1 in
-    (r.0, led.after, led.stands, (led.closed, led.holds.0))
+    let few = c.without_works-to.ensures.done in
+    let done = led.holds.0 in
+    (r.0, led.after, led.stands, (led.closed, omega (arith, few, done)))
 
 pub returns-in-Ok-view_reply-2-clause-replies : goal.returns-in-Ok-view_reply-2-clause-replies
 returns-in-Ok-view_reply-2-clause-replies g c = λ by h stands closed named.
     let call = c.in-Some.ensures.asks by h stands in
     let led = asked_led _ (g.H.Hub.settings c.args.server.now.hub.now) _ _ _ by c.args.seen c.args.query.now h _ c.in-Some.asked call closed named in
-    waited_shown _ _ _ _ _ by c.args.seen c.args.query.now h _ c.in-Some.asked call closed named (let x = c.if-query-asked.false in omega (arith, x)) c.if-query.false (let x = c.if-max-asked.false in let y = c.max.ensures in omega (arith, x, y)) _ c.in-Ok-view_reply-2.reply _ _ _ _ _ c.in-Some.ensures.asked (c.in-Ok-view_reply-2.ensures.shown by led.after led.stands led.closed tt)
+    waited_shown _ _ _ _ _ by c.args.seen c.args.query.now h _ c.in-Some.asked call closed named (let x = c.if-query-asked.false in omega (arith, x)) c.if-query.false c.without_works-to.result (let x = c.without_works-to.ensures.recent in let y = c.max-floor.ensures in omega (arith, x, y)) c.without_works-to.ensures.done _ c.in-Ok-view_reply-2.reply _ _ _ _ _ c.in-Some.ensures.asked (c.in-Ok-view_reply-2.ensures.shown by led.after led.stands led.closed tt)
 
 pub returns-in-Err-view_reply-2-clause-refused : goal.returns-in-Err-view_reply-2-clause-refused
 returns-in-Err-view_reply-2-clause-refused g c = λ by h stands closed named.
     let call = c.in-Some.ensures.asks by h stands in
     let led = asked_led _ (g.H.Hub.settings c.args.server.now.hub.now) _ _ _ by c.args.seen c.args.query.now h _ c.in-Some.asked call closed named in
-    waited_given_up _ _ _ _ _ by c.args.seen c.args.query.now h _ c.in-Some.asked call closed named (let x = c.if-query-asked.false in omega (arith, x)) c.if-query.false (let x = c.if-max-asked.false in let y = c.max.ensures in omega (arith, x, y)) _ _ _ _ _ _ c.in-Some.ensures.asked (c.in-Err-view_reply-2.ensures.refused by led.after led.stands led.closed tt)
+    waited_given_up _ _ _ _ _ by c.args.seen c.args.query.now h _ c.in-Some.asked call closed named (let x = c.if-query-asked.false in omega (arith, x)) c.if-query.false c.without_works-to.result (let x = c.without_works-to.ensures.recent in let y = c.max-floor.ensures in omega (arith, x, y)) c.without_works-to.ensures.done _ _ _ _ _ _ c.in-Some.ensures.asked (c.in-Err-view_reply-2.ensures.refused by led.after led.stands led.closed tt)
 
 pub returns-in_default-clause-broken : goal.returns-in_default-clause-broken
 returns-in_default-clause-broken g c = (search rules, waited_none g.H.Hub c.args.server.now.hub.now c.args.pass.now c.ask.new.pass (search rules))
