@@ -67,13 +67,13 @@ returns-in-Err-clause-served g c =
     let (reply, are, (front, more, parts, sent)) = c.in-Err.ensures.sent from c.args.answers.now so.lines so.replied.replies so.replied.talk in
     write_failed g.A.AnswersUntil.line_of (g.A.AnswersUntil.AreReplies from c.args.answers.now c.lines.answers) (g.A.AnswersUntil.AreReplies from c.args.answers.now c.answer.new.self) _ _ _ _ _ _ _ _ _ cuts.got c.in-Line.line.now reply so cuts.bytes cuts.taken cuts.within cuts.limit (λ e. (cuts.stays e).0) cuts.finds.1 (λ talk. are) front more parts sent
 
-pub lines-smaller-in-Ok-None-answer_long : goal.lines-smaller-in-Ok-None-answer_long
-lines-smaller-in-Ok-None-answer_long g c =
+pub lines-smaller : goal.lines-smaller
+lines-smaller g c =
     let cuts = rw c.in-TooLong.is at c.next.follows.holds-at-none in
     fewer _ c.lines.lines c.next.follows.lender-at-none _ _ cuts.taken cuts.within cuts.limit cuts.finds.2
 
-pub lines-preserved-in-Ok-None-answer_long : goal.lines-preserved-in-Ok-None-answer_long
-lines-preserved-in-Ok-None-answer_long g c =
+pub lines-preserved : goal.lines-preserved
+lines-preserved g c =
     let cuts = rw c.in-TooLong.is at c.next.follows.holds-at-none in
     record {
       goes = λ from begins.
