@@ -99,7 +99,7 @@ pub(crate) fn status_of_exported(exported: Exported) -> Status
     }
 }
 
-/// The status of the serving of connections that ended so.
+/// The status of the shortening of a log that ended so.
 pub(crate) fn status_of_shortened(shortened: Shortened) -> Status
     ensures status { result ≡ spec.status_of_shortened shortened }
     ensures some { result ≢ ended.Memory }
@@ -110,6 +110,7 @@ pub(crate) fn status_of_shortened(shortened: Shortened) -> Status
     }
 }
 
+/// The status of the serving of connections that ended so.
 pub(crate) fn status_of_served(served: Served) -> Status
     ensures { result ≡ spec.status_of_served served }
 {
