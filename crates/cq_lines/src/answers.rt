@@ -56,7 +56,7 @@ pub trait AnswersUntil {
     ghost AreReplies: { Beginning → Self → Self → List (List ℕ) → List Reply → Type 0 };
 
     // the same, where it stopped, for this cause, at the last of these lines
-    ghost HasStopped: { Beginning → Self → Self → List (List ℕ) → List Reply → Stop → Type 0 };
+    ghost HasStopped: { Beginning → Self → Self → List (List ℕ) → List Reply → Self.Stop → Type 0 };
 
     // it may be asked
     ghost ready: { Self → Type 0 };

@@ -32,7 +32,7 @@ use Rattle.cq_talk.specs.Talk.{IsAnswerBy, IsAnswered, IsChangedBy, IsGivenUp, I
 use Rattle.cq_session.specs.Costs.{AtCost, Costs, Counts, counted}
 use Rattle.cq_session.specs.Turn as turn
 use Rattle.cq_session.specs.Viewing.{InView, ShowsAt, ViewsOrNot}
-use Rattle.cq_session.specs.declared.telling.Told.{Told}
+use Rattle.cq_session.specs.declared.telling.ReplyLine.{ReplyLine}
 
 module _ {H W P : Type 0} (of : Ghosts H W P) (hub : H) where
   -- ---- a view that is open, where a text has these works
@@ -168,5 +168,5 @@ module _ {H W P : Type 0} (of : Ghosts H W P) (hub : H) where
         Begins set line = HasGivenUp (line_says set.chunk line)
 
         -- it is the line of its reply, with the number that the reply names
-        abbrev pub HasLine : (ℕ → ℕ) → Settings → List ℕ → Told → Type 0
+        abbrev pub HasLine : (ℕ → ℕ) → Settings → List ℕ → ReplyLine → Type 0
         HasLine acceptor set line told = LedBy (λ c h. turn.Tells (of.settings hub) (of.callers hub) of.alone c (acceptor c) seen h spent (Read (line_says set.chunk line)) (bytes_of told.line) told.number told.known)

@@ -57,9 +57,9 @@ fn is_known(reply: &Reply) -> bool
     }
 }
 
-/// A reply, as it is told.
+/// The line of a reply, and what the session has to know of the reply.
 #[derive(Drop)]
-pub(crate) struct Told {
+pub(crate) struct ReplyLine {
     pub line: Line,
     /// The number that it names, or 0.
     pub number: u64,
@@ -68,12 +68,12 @@ pub(crate) struct Told {
 }
 
 // A reply for which there is no memory.
-fn told_memory() -> Told
+fn told_memory() -> ReplyLine
     ensures bytes { bytes_of result.line ≡ line_in reply.Memory }
     ensures number { result.number ≡ 0 }
     ensures known { result.known ≡ false }
 {
-    Told {
+    ReplyLine {
         line: Line::Short(fixed(Short::Memory)),
         number: 0,
         known: false,
@@ -88,7 +88,7 @@ pub(crate) fn told<R: Threads + Sync, L: Ledger, H: Hub<Work<L>>, P: Keeper<Work
     seen: u64,
     pass: &mut H::Pass,
     steps: &mut Steps<L>,
-) -> Option<Told>
+) -> Option<ReplyLine>
     requires in_range { IsInRange server.now.keyer.now.settings }
     requires hub_settings { H.settings server.now.hub.now ≡ server.now.keyer.now.settings }
     requires keeps { P.Keeps server.now.keeper.now server.now.hub.now }
@@ -102,7 +102,7 @@ pub(crate) fn told<R: Threads + Sync, L: Ledger, H: Hub<Work<L>>, P: Keeper<Work
 {
     match reply_to(rt, server, line, seen, pass, steps) {
         Ok(Some(reply)) => match line_of(server.alloc, &reply) {
-            Ok(line) => Some(Told {
+            Ok(line) => Some(ReplyLine {
                 line,
                 number: named(&reply),
                 known: is_known(&reply),
