@@ -16,7 +16,7 @@ use Rattle.cq_history.specs.declared.event.Event.TheVariants.{Accept}
 use Rattle.cq_history.specs.State.{accepted, own}
 use Rattle.cq_history.proofs.Prefixes.{own-append}
 use Rattle.cq_keeper.specs.Firsts.{IsFirst, IsFirstAfter, IsFirstStill}
-use Rattle.cq_keeper.proofs.Accepting.{all_left, nothing_after, first_none, accepted_same, accepted_seen, accepted_last}
+use Rattle.cq_keeper.proofs.Acceptors.{all_left, nothing_after, first_none, accepted_same, accepted_seen, accepted_last}
 use Rattle.cq_shared.specs.Calls.{Calls}
 use Rattle.cq_shared.specs.SharedPasses.{IsPassOf}
 use Rattle.cq_shared.specs.declared.shared.Shared.{Shared}

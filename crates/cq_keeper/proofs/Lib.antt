@@ -1,3 +1,3 @@
-mod Accepting
+mod Acceptors
 mod Leveling
 mod Writing

@@ -1,6 +1,6 @@
 pub mod Complete
 mod Kept
 mod Ended
-mod Logged
+mod LogEnds
 mod Closing
 mod Agreeing

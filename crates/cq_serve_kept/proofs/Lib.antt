@@ -1,6 +1,6 @@
 pub mod Continuing
 pub mod Ending
-pub mod Reloading
+pub mod FirstPass
 pub mod Lowering
 pub mod Mended
 pub mod Took

@@ -37,7 +37,7 @@ use Rattle.cq_talk.proofs.Causing.{cause_is}
 use Rattle.cq_talk.proofs.Talking.{published_few}
 use Rattle.cq_serve_kept.specs.Reloads.{HasTaken, IsDone, IsLow, TakesAfter}
 use Rattle.cq_serve_kept.proofs.Continuing.{each_accepted}
-use Rattle.cq_serve_kept.proofs.Reloading.{lawful_seen, none_other, taken_accepted, taken_asked, taken_waited}
+use Rattle.cq_serve_kept.proofs.FirstPass.{lawful_seen, none_other, taken_accepted, taken_asked, taken_waited}
 
 no_views : (n : ℕ) (views : List (Option ℕ)) → ((c : ℕ) → get_or views c None ≡ None) → fold lower n views ≡ n
 no_views n [] none = refl

@@ -16,7 +16,7 @@ use Rattle.cq_serve_kept.specs.Continued.{Continues, ContinuesBroken, ContinuesW
 use Rattle.cq_serve_kept.specs.Reloads.{HasTaken}
 use Rattle.cq_serve_kept.specs.declared.serving.Kept.{Kept}
 use Rattle.cq_serve_kept.specs.declared.serving.Kept.TheVariants as kept
-use Rattle.cq_serve_kept.proofs.Reloading.{lawful_seen}
+use Rattle.cq_serve_kept.proofs.FirstPass.{lawful_seen}
 
 module _ {K : Type 0} (onto : sink.Ghosts K) (set : Settings) (before : List Change) (old mid now : K) (mended : List ℕ) (sent : Appends (onto.written old) (onto.written mid) mended) where
   continues_mended : Continues onto set [] before mid now → Continues onto set mended before old now

@@ -2,8 +2,8 @@ use Rattle.std.proofs.Common.{◌≡◌, ℕ, List, refl, sym, subst}
 use Rattle.cq_lines.proofs.Serving.{serves_as, serves_by}
 use Rattle.cq_lines.proofs.serve.serve_lines.Goals as goal
 
-pub returns-in-Ok-clause-served : goal.returns-in-Ok-clause-served
-returns-in-Ok-clause-served g c = λ from begins.
+pub returns-clause-served : goal.returns-clause-served
+returns-clause-served g c = λ from begins.
     let now = c.serve_lines_until.new.answers in
     let first = c.args.answers in
     let (name, none, served) = serves_by g.A.Answers.line_of (λ (name : now.answers.ghost_name ≡ first.ghost_name). Unit {0}) (λ (name : now.answers.ghost_name ≡ first.ghost_name). g.A.Answers.AreReplies from first.now now.answers.now) _ _ _ _ _ _

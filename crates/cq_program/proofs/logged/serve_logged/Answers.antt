@@ -1,7 +1,7 @@
 use Rattle.std.proofs.Common.{subst, sym}
 use Rattle.cq_program.specs.Top.{Logs}
 use Rattle.cq_program.specs.declared.status.Status.{Status}
-use Rattle.cq_program.proofs.Logged.{logs_kept}
+use Rattle.cq_program.proofs.LogEnds.{logs_kept}
 use Rattle.cq_program.proofs.logged.serve_logged.Goals as goal
 
 pub returns-in-Ok-clause-logs : goal.returns-in-Ok-clause-logs

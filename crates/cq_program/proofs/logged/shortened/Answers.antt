@@ -1,7 +1,7 @@
 use Rattle.std.proofs.Common.{subst, sym}
 use Rattle.cq_program.specs.Statuses.{Ends}
 use Rattle.cq_program.specs.declared.status.Status.{Status}
-use Rattle.cq_program.proofs.Logged.{ended_shortened}
+use Rattle.cq_program.proofs.LogEnds.{ended_shortened}
 use Rattle.cq_program.proofs.logged.shortened.Goals as goal
 
 pub returns-in-Ok-clause-ends : goal.returns-in-Ok-clause-ends

@@ -1,6 +1,6 @@
 use Rattle.std.proofs.Common.{refl, ◌∙◌, sym}
 use Rattle.std.proofs.lemmas.Result.{IfOk-weaker}
-use Rattle.cq_serve_kept.proofs.Reloading.{taken_none}
+use Rattle.cq_serve_kept.proofs.FirstPass.{taken_none}
 use Rattle.cq_serve_kept.proofs.Took.{ends_kept}
 use Rattle.cq_serve_kept.proofs.serving.serve_kept.Goals as goal
 

@@ -9,7 +9,7 @@ use Rattle.cq_log.specs.Mending.{mending}
 use Rattle.cq_shared.specs.SharedPasses.{state_of}
 use Rattle.cq_serve_kept.specs.Continued.{EndsServed}
 use Rattle.cq_serve_kept.proofs.Mended.{ends_mended, first_taken, mends_front}
-use Rattle.cq_serve_kept.proofs.Reloading.{room_left}
+use Rattle.cq_serve_kept.proofs.FirstPass.{room_left}
 use Rattle.cq_serve_kept.proofs.serving.serve_taken.Goals as goal
 
 pub passes_of-requires : goal.passes_of-requires

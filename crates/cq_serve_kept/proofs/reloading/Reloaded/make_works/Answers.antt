@@ -12,7 +12,7 @@ use Rattle.cq_session.proofs.Working.{job_work}
 use Rattle.cq_shared.specs.SharedPasses.{callers_of, settings_of, state_of}
 use Rattle.cq_work.specs.Work.{IsWorkOf}
 use Rattle.cq_serve_kept.proofs.Lowering.{done_taken}
-use Rattle.cq_serve_kept.proofs.Reloading.{taken_finished}
+use Rattle.cq_serve_kept.proofs.FirstPass.{taken_finished}
 use Rattle.cq_serve_kept.proofs.reloading.Reloaded.make_works.Goals as goal
 
 pub works-init : goal.works-init

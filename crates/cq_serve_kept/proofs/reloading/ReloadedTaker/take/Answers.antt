@@ -4,7 +4,7 @@ use Rattle.cq_board.specs.declared.answers.Refused.{Refused}
 use Rattle.cq_board.specs.declared.answers.Refused.TheVariants as refused
 use Rattle.cq_shared.specs.Answers.{Refuses}
 use Rattle.cq_serve_kept.proofs.Lowering.{accepted_next, refused_absent, taken_as}
-use Rattle.cq_serve_kept.proofs.Reloading.{taken_waited}
+use Rattle.cq_serve_kept.proofs.FirstPass.{taken_waited}
 use Rattle.cq_serve_kept.proofs.reloading.ReloadedTaker.take.Goals as goal
 
 pub returns-in-Ok-clause-takes : goal.returns-in-Ok-clause-takes
