@@ -73,7 +73,9 @@ fn state_reply<W: Indexed, H: Hub<W>, P: Keeper<W, H>, G>(
         (HasWaited H.Hub server.now.hub.now pass.old pass.new) result }
     ensures asked { H.asked pass.new ≡ H.asked pass.old }
 {
-    let asked = server.keeper.ask(server.hub, pass)?;
+    let Some(asked) = server.keeper.ask(server.hub, pass) else {
+        return None;
+    };
     Some(Reply::State {
         accepted: asked.accepted,
         done: asked.done,

@@ -1,6 +1,7 @@
 use Rattle.std.proofs.Common.{◌≡◌, Ok, Err, refl, ap, sym, subst, ◌∙◌}
 use Rattle.std.proofs.lemmas.Result.{IfOk-weaker, on_err_weaker}
 use Rattle.cq_answer.proofs.Asked.{path_asked, scope_asked}
+use Rattle.cq_base.specs.declared.settings.Settings.{Settings}
 use Rattle.cq_hub.specs.Hubs.{Never}
 use Rattle.cq_hub.proofs.Growing.{grows_none}
 use Rattle.cq_reply.specs.declared.reply.Reply.TheVariants as reply

@@ -1,18 +1,10 @@
-use Rattle.std.proofs.Common.{◌≡◌, ℕ, List, rules, [], true, refl, sym, subst, subst₂, arith}
-use Rattle.cq_base.specs.declared.settings.Settings.{Settings}
-use Rattle.cq_history.specs.declared.event.Event.{Event}
-use Rattle.cq_lines.proofs.Serving.{until_as, until_by, until_stops}
+use Rattle.std.proofs.Common.{◌≡◌, rules, [], refl, sym, subst, arith}
+use Rattle.cq_lines.proofs.Serving.{until_stops}
 use Rattle.cq_reply.specs.Written.{line_of}
-use Rattle.cq_reply.specs.declared.reply.Reply.{Reply}
-use Rattle.cq_session.specs.Clients.{HasMet}
 use Rattle.cq_session.specs.Costs.{counted}
-use Rattle.cq_session.specs.Overs.{MayStop, StoppedTalk}
-use Rattle.cq_session.specs.Serving.{HasStopped, HasTalked}
-use Rattle.cq_session.specs.Turn.{StrictTalkBy}
-use Rattle.cq_session.specs.declared.stop.Stop.{Stop}
-use Rattle.cq_talk.specs.Steps.{IsClosed}
-use Rattle.cq_session.proofs.Clients.{met_client}
-use Rattle.cq_session.proofs.Turns.{talked_none, until_with}
+use Rattle.cq_session.specs.Overs.{MayStop}
+use Rattle.cq_session.specs.Serving.{HasTalked}
+use Rattle.cq_session.proofs.Turns.{served_until, talked_none}
 use Rattle.cq_session.proofs.serving.kept_session.Goals as goal
 
 pub serve_lines_until-requires-clause-ready : goal.serve_lines_until-requires-clause-ready
@@ -23,40 +15,17 @@ returns-clause-served g c = λ by h stands closed always.
     let set = c.args.server.now.keyer.now.settings in
     let hub = c.args.server.now.hub.now in
     let keeper = c.args.server.now.keeper.now in
-    let callers = g.H.Hub.callers hub in
     let acceptor = g.P.Keeper.acceptor keeper in
-    let strict = g.P.Keeper.strict keeper in
     let now = c.serve_lines_until.new.answers in
-    let n = counted c.args.steps.now now.steps.now (g.H.Hub.asked c.args.pass.now) (g.H.Hub.asked now.pass.now) in
     let begins : HasTalked g.H.Hub set hub acceptor (by, h) (counted c.args.steps.now c.args.steps.now (g.H.Hub.asked c.args.pass.now) (g.H.Hub.asked c.args.pass.now)) c.args.pass.now 0 [] [] = record {
       after = h;
       stands = stands;
       closed = closed;
-      talk = talked_none set callers g.H.Hub.alone by (acceptor by) h c.args.steps.now (g.H.Hub.asked c.args.pass.now);
+      talk = talked_none set (g.H.Hub.callers hub) g.H.Hub.alone by (acceptor by) h c.args.steps.now (g.H.Hub.asked c.args.pass.now);
       within = omega arith;
     } in
-    let over = until_with g.S.Source g.K.Sink (λ (lines : List (List ℕ)) (replies : List Reply). HasTalked g.H.Hub now.server.now.keyer.now.settings now.server.now.hub.now (g.P.Keeper.acceptor now.server.now.keeper.now) (by, h) n now.pass.now now.seen lines replies)
-    (λ (lines : List (List ℕ)). g.P.Keeper.strict now.server.now.keeper.now ≡ true → HasMet now.server.now.keyer.now.settings.chunk now.met lines)
-    (λ (lines : List (List ℕ)) (replies : List Reply) (why : Stop). HasStopped g.H.Hub now.server.now.keyer.now.settings now.server.now.hub.now (g.P.Keeper.acceptor now.server.now.keeper.now) (by, h) now.pass.now lines replies why)
-    (λ (why : Stop). MayStop (g.P.Keeper.Breaks now.server.now.keeper.now) (g.P.Keeper.strict now.server.now.keeper.now) why) _ _ _ _ _ c.serve_lines_until.result
-    (c.serve_lines_until.ensures.served (by, h) (begins, λ strictly. refl, refl, refl, refl, refl, refl)) in
-    let pass_is = c.pass-1.given.1 (sym over.3) in
-    let steps_is = c.steps-1.given.1 (sym over.4) in
-    let (after, holds, served) = until_by g.S.Source g.K.Sink line_of (λ (after : List Event). g.H.Hub.Stands hub now.pass.now by after × IsClosed callers by after) (λ (after : List Event). StrictTalkBy strict set callers g.H.Hub.alone by (acceptor by) h n after) (λ (after : List Event). StoppedTalk set callers g.H.Hub.alone by (acceptor by) h after) _ _ _ _ _ c.serve_lines_until.result
-    (until_as g.S.Source g.K.Sink line_of _ _ _ _ (λ lines replies is.
-    let same = subst₂ (λ (s : Settings) (b : g.row.H.Denot). HasTalked g.H.Hub s b (g.P.Keeper.acceptor now.server.now.keeper.now) (by, h) n now.pass.now now.seen lines replies × (g.P.Keeper.strict now.server.now.keeper.now ≡ true → HasMet s.chunk now.met lines)) over.0 over.1 is in
-    let talked = subst (λ (k : g.row.P.Denot). HasTalked g.H.Hub set hub (g.P.Keeper.acceptor k) (by, h) n now.pass.now now.seen lines replies × (g.P.Keeper.strict k ≡ true → HasMet set.chunk now.met lines)) over.2 same in
-    (talked.0.after, (talked.0.stands, talked.0.closed), record { talk = talked.0.talk.talk; of_client = λ strictly. met_client set.chunk now.met lines (talked.1 strictly) })) (λ lines replies why is.
-    let same = subst₂ (λ (s : Settings) (b : g.row.H.Denot). HasStopped g.H.Hub s b (g.P.Keeper.acceptor now.server.now.keeper.now) (by, h) now.pass.now lines replies why) over.0 over.1 is.0 in
-    let stopped = subst (λ (k : g.row.P.Denot). HasStopped g.H.Hub set hub (g.P.Keeper.acceptor k) (by, h) now.pass.now lines replies why) over.2 same in
-    (stopped.after, (stopped.stands, stopped.closed), stopped.stopped)) _ _ _ _ _ c.serve_lines_until.result over.5) in
-    record {
-      after = after;
-      stands = subst (λ (p : g.row.H-Pass.Denot). g.H.Hub.Stands hub p by after) (sym pass_is) holds.0;
-      closed = holds.1;
-      holds = until_as g.S.Source g.K.Sink line_of _ _ _ _ (λ lines replies is.
-          subst₂ (λ (p : g.row.H-Pass.Denot) (s : ℕ). StrictTalkBy strict set callers g.H.Hub.alone by (acceptor by) h (counted c.args.steps.now s (g.H.Hub.asked c.args.pass.now) (g.H.Hub.asked p)) after lines replies) (sym pass_is) (sym steps_is) is) (λ lines replies why is. is) _ _ _ _ _ c.serve_lines_until.result served;
-    }
+    served_until {D = now.pass.ghost_name ≡ _} {E = now.steps.ghost_name ≡ _} g.H.Hub g.S.Source g.K.Sink g.P.Keeper.acceptor g.P.Keeper.strict g.P.Keeper.Breaks set now.server.now.keyer.now.settings hub now.server.now.hub.now keeper now.server.now.keeper.now c.args.pass.now now.pass.now _ c.args.steps.now now.steps.now _ now.met now.seen
+    (λ name. c.pass-1.given.1 (sym name)) (λ name. c.steps-1.given.1 (sym name)) by h _ _ _ _ _ c.serve_lines_until.result (c.serve_lines_until.ensures.served (by, h) (begins, λ strictly. refl, refl, refl, refl, refl, refl))
 
 pub returns-clause-may : goal.returns-clause-may
 returns-clause-may g c =

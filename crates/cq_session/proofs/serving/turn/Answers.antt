@@ -10,7 +10,10 @@ use Rattle.cq_talk.proofs.Leading.{lead_weaker}
 use Rattle.cq_talk.proofs.Saying.{said_short}
 use Rattle.cq_session.proofs.Clients.{known_object}
 use Rattle.cq_session.proofs.LineCosts.{spends_as}
-use Rattle.cq_session.proofs.Turns.{turned_by}
+use Rattle.cq_session.proofs.Turns.{may_stop, turned_by}
+use Rattle.cq_session.specs.Overs.{MayStop}
+use Rattle.cq_session.specs.declared.stop.Stop.{Stop}
+use Rattle.std.specs.Prelude.{IfSome, Option}
 use Rattle.cq_session.proofs.serving.turn.Goals as goal
 
 pub returns-in-Ok-clause-turns : goal.returns-in-Ok-clause-turns
@@ -33,8 +36,8 @@ returns-in-Ok-clause-turns g c = λ by h stands closed named.
     })
     tells.known_is (λ known. subst IsObject (sym short) (known_object set (g.H.Hub.callers hub) g.H.Hub.alone by (acceptor by) c.args.seen.now h later (line_says set.chunk c.args.line.now) tells.reply answers known)))
 
-pub returns-in-Err-clause-turns : goal.returns-in-Err-clause-turns
-returns-in-Err-clause-turns g c = λ by h stands closed named.
+pub returns-clause-turns : goal.returns-clause-turns
+returns-clause-turns g c = λ by h stands closed named.
     let set = c.args.server.now.keyer.now.settings in
     let hub = c.args.server.now.hub.now in
     let acceptor = g.P.Keeper.acceptor c.args.server.now.keeper.now in
@@ -48,3 +51,8 @@ returns-in-Err-clause-turns g c = λ by h stands closed named.
       sends = subst (λ piece. SendsFront (g.K.Sink.written c.args.sink.now) (g.K.Sink.written c.send.new.sink) piece) (c.as_bytes.ensures ∙ tells.bytes_are) c.in-Err.ensures.bytes;
       seen_is = c.max.ensures ∙ ap (max c.args.seen.now) tells.named_is;
     })
+
+pub returns-in-Ok-clause-may : goal.returns-in-Ok-clause-may
+returns-in-Ok-clause-may g c =
+    let keeper = c.args.server.now.keeper.now in
+    subst (λ (o : Option Stop). IfSome o (MayStop (g.P.Keeper.Breaks keeper) (g.P.Keeper.strict keeper))) (sym c.stop_of.ensures) (may_stop (g.P.Keeper.Breaks keeper) (g.P.Keeper.strict keeper) c.args.first c.in-Some.told.known)
