@@ -1,4 +1,4 @@
-use Rattle.std.proofs.Common.{◌≡◌, ℕ, List, refl, sym, subst}
+use Rattle.std.proofs.Common.{◌≡◌, refl, sym, subst}
 use Rattle.cq_lines.proofs.Serving.{serves_as, serves_by}
 use Rattle.cq_lines.proofs.serve.serve_lines.Goals as goal
 
