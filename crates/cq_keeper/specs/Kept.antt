@@ -66,12 +66,3 @@ module _ {K N : Type 0} (onto : sink.Ghosts K) (of : log_of.Ghosts N) where
 abbrev pub RefusesKept : {W R : Type 0} → Shared W R → BoardPass → BoardPass → Change → Unkept → Type 0
 RefusesKept hub p q change (unkept.Refused cause) = firsts.Refuses hub p q change cause
 RefusesKept hub p q change unkept.Broken = firsts.SeesMore hub p q
-
--- no cells: what a log is of until somebody picks it
-abbrev pub no_cells : BoardCells
-no_cells = record {
-  table = record { words = 0; slots = 0; views_name = 0; atom = 0; block = 0; offset = 0; slot_names = [] };
-  about = record { settings = record { chunk = 0; shards = 0; key_bits = 0; ignore_ids = false; ignore_lits = false; change_limit = 0; text_limit = 0; byte_limit = 0 }; callers = 0; first_only = false };
-  shards = 0;
-  callers = 0;
-}

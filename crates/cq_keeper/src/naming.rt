@@ -1,7 +1,7 @@
 ghost use Rattle.std.specs.Prelude.{ℕ, List, [], Option, None};
 ghost use Rattle.cq_base.specs.declared.change.Change.{Change as Accepted};
 ghost use Rattle.cq_chain.specs.Passes.{BoardCells};
-ghost use Rattle.cq_keeper.specs.Kept.{no_cells};
+ghost use Rattle.cq_keeper.specs.Unpicked.{no_cells};
 
 use std::marker::Brand;
 

@@ -1,11 +1,12 @@
 -- What the first pass of a hub knows that let go of all that it can, and why a change is not taken then.
-use Rattle.std.proofs.Common.{◌≡◌, ◌≢◌, ◌⊎◌, ℕ, zero, suc, ◌+◌, ◌-◌, ◌<◌, ◌≤◌, Bool, true, false, not, ◌&&◌, List, [], ◌∷◌, ◌++◌, length, fold, get_or, Option, Some, None, Result, refl, sym, ap, ◌∙◌, subst, ⊎_elim, arith, append-nil, true≢false}
+use Rattle.std.proofs.Common.{◌≡◌, ◌≢◌, ◌⊎◌, ℕ, zero, suc, ◌+◌, ◌-◌, ◌<◌, ◌≤◌, Bool, true, false, not, ◌&&◌, List, [], ◌∷◌, ◌++◌, length, fold, get_or, Option, Some, None, Result, Ok, refl, sym, ap, ◌∙◌, subst, ⊎_elim, arith, append-nil, true≢false}
 use Rattle.std.specs.Prelude.{is_none, Contains}
 use Rattle.std.proofs.lemmas.List.Sums.{fails_before_first, prefix_len-le-length}
 use Rattle.cq_base.proofs.Lists.{Contains-nil}
 use Rattle.cq_base.specs.declared.change.Change.{Change}
 use Rattle.cq_base.specs.declared.change.Change.TheVariants.{Put, Drop, Gate}
 use Rattle.cq_base.specs.declared.memory.Memory.{Memory}
+use Rattle.cq_base.specs.declared.refusal.Refusal.{Refusal}
 use Rattle.cq_base.specs.declared.settings.Settings.{Settings}
 use Rattle.cq_board.specs.Answers.{asked_of, cause_among, greatest_floor, lower}
 use Rattle.cq_board.specs.declared.answers.Asked.{Asked}
@@ -27,6 +28,9 @@ use Rattle.cq_hub.specs.Says.{HasGreatestFloor, HasPublished, IsNoneFree, IsRefu
 use Rattle.cq_hub.proofs.Growing.{rises}
 use Rattle.cq_log.specs.Logs.{is_accepted}
 use Rattle.cq_log.specs.Takers as takers
+use Rattle.cq_request.specs.declared.request.Query.{Query}
+use Rattle.cq_request.specs.declared.request.Request.{Request}
+use Rattle.cq_request.specs.declared.request.Request.TheVariants as request
 use Rattle.cq_serve.proofs.Easing.{unmade_closed}
 use Rattle.cq_shared.specs.Answers.{Sweeps}
 use Rattle.cq_shared.specs.Calls.{Calls}
@@ -61,6 +65,26 @@ absent_anywhere : (set : Settings) (changes : List Change) (low high : ℕ) (cha
 absent_anywhere set changes low high change is =
     let there = absent_of (is_absent (state_at changes low) change) (is_full set (state_at changes low)) (is_long set (state_at changes low) change) is in
     ap (λ (b : Bool). cause_among b (is_full set (state_at changes high)) (is_long set (state_at changes high) change)) (sym (same_absence changes low high change) ∙ there)
+
+-- ---- what a line says
+
+pub same_change : (says : Result Request Refusal) (a b : Change) → says ≡ Ok (request.Change a) → says ≡ Ok (request.Change b) → a ≡ b
+same_change says a b one two =
+    let left : Result Request Refusal = Ok (request.Change a) in
+    let both : left ≡ Ok (request.Change b) = sym one ∙ two in
+    cc (both)
+
+pub no_query : (says : Result Request Refusal) (query : Query) (change : Change) → says ≡ Ok (request.Query query) → says ≡ Ok (request.Change change) → ⊥
+no_query says query change one two =
+    let left : Result Request Refusal = Ok (request.Query query) in
+    let both : left ≡ Ok (request.Change change) = sym one ∙ two in
+    cc (both)
+
+pub no_state : (says : Result Request Refusal) (change : Change) → says ≡ Ok request.State → says ≡ Ok (request.Change change) → ⊥
+no_state says change one two =
+    let left : Result Request Refusal = Ok request.State in
+    let both : left ≡ Ok (request.Change change) = sym one ∙ two in
+    cc (both)
 
 module _ {W R : Type 0} (hub : Shared W R) (set : Settings) (changes : List Change) where
   -- nobody has a change in hand

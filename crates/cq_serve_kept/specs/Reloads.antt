@@ -1,5 +1,5 @@
 -- What a hub has that took a log.
-use Rattle.std.specs.Prelude.{◌≡◌, Bool, true, false, List, [], ◌∷◌, ◌++◌, length}
+use Rattle.std.specs.Prelude.{◌≡◌, ℕ, Bool, true, false, List, [], ◌∷◌, ◌++◌, length, Ok}
 use Rattle.cq_base.specs.Settings.{IsInRange}
 use Rattle.cq_base.specs.declared.change.Change.{Change}
 use Rattle.cq_base.specs.declared.settings.Settings.{Settings}
@@ -7,6 +7,8 @@ use Rattle.cq_cells.specs.Passes.{by_of}
 use Rattle.cq_chain.specs.Passes.{BoardPass}
 use Rattle.cq_history.specs.State.{accepted, ready}
 use Rattle.cq_log.specs.Logs.{is_accepted}
+use Rattle.cq_request.specs.Reading.{line_says}
+use Rattle.cq_request.specs.declared.request.Request.TheVariants as request
 use Rattle.cq_serve.specs.Turns.{AtEase}
 use Rattle.cq_shared.specs.declared.shared.Shared.{Shared}
 use Rattle.cq_shared.specs.SharedPasses.{IsPassOf, OnlyFirstAccepts, settings_of, state_of}
@@ -58,6 +60,10 @@ module _ {W R : Type 0} (hub : Shared W R) where
     -- it has taken the change or not, after whatever it had taken
     abbrev pub TakesChange : Change → Bool → Type 0
     TakesChange change result = (set : Settings) (changes : List Change) → HasTaken p set changes → TakesAfter q set changes change result
+
+    -- the same of the change that a line says, to whoever reads lines of this chunk
+    abbrev pub TakesSaid : ℕ → List ℕ → Bool → Type 0
+    TakesSaid chunk line result = (change : Change) → line_says chunk line ≡ Ok (request.Change change) → TakesChange change result
 
     -- the same where the floor was at the last change
     abbrev pub TakesWhereLow : Change → Bool → Type 0

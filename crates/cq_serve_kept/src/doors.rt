@@ -10,13 +10,13 @@ use std::sync::Wait;
 /// The doors of a server that keeps a log: they end once a line could not be kept. They don't report how many connections are
 /// to come.
 #[derive(Drop)]
-pub(crate) struct KeptDoors<'a, 's, D, Q, W: Indexed, K: Sink, N: LogOf> {
-    pub doors: &'a mut D,
-    pub log: &'a Log<'a, 's, Q, W, K, N>,
+pub(crate) struct KeptDoors<'d, 'l, 'q, 's, D, Q, W: Indexed, K: Sink, N: LogOf> {
+    pub doors: &'d mut D,
+    pub log: &'l Log<'q, 's, Q, W, K, N>,
 }
 
-impl<'a, 's, D: Doors, Q: Wait, W: Indexed, K: Sink, N: LogOf> Doors
-    for KeptDoors<'a, 's, D, Q, W, K, N>
+impl<'d, 'l, 'q, 's, D: Doors, Q: Wait, W: Indexed, K: Sink, N: LogOf> Doors
+    for KeptDoors<'d, 'l, 'q, 's, D, Q, W, K, N>
 where
     D::In: Drop,
     D::Out: Drop,

@@ -3,7 +3,7 @@ ghost use Rattle.cq_base.specs.Changes.{IsSoundChange};
 ghost use Rattle.cq_base.specs.declared.change.Change.{Change as Said};
 ghost use Rattle.cq_request.specs.Reading.{line_says};
 ghost use Rattle.cq_request.specs.declared.request.Request.TheVariants as request;
-ghost use Rattle.cq_serve_kept.specs.Reloads.{MayReload, StaysDone, StaysLow, TakesChange, TakesWhereLow};
+ghost use Rattle.cq_serve_kept.specs.Reloads.{MayReload, StaysDone, StaysLow, TakesSaid, TakesWhereLow};
 
 use cq_base::{Change, Memory, Settings};
 use cq_board::Refused;
@@ -88,13 +88,12 @@ impl<'a, L: Ledger, R: Wait> Reloaded<'a, L, R> {
         settings: &Settings,
         line: &[u8],
     ) -> Result<bool, Memory>
-        ghost wanted: { Said }
         requires ready { MayReload self.old.hub.now self.old.keyer.now.settings self.old.pass }
-        requires says { line_says settings.now.chunk line.now ≡ Ok (request.Change wanted) }
+        requires says { (wanted : Said) × (line_says settings.now.chunk line.now ≡ Ok (request.Change wanted)) }
         ensures ready { OnOk result
             (MayReload self.new.hub.now self.new.keyer.now.settings self.new.pass) }
         ensures same { (self.new.hub.now ≡ self.old.hub.now) × (self.new.keyer.now.settings ≡ self.old.keyer.now.settings) }
-        ensures takes { IfOk result (TakesChange self.old.hub.now self.old.pass self.new.pass wanted) }
+        ensures takes { IfOk result (TakesSaid self.old.hub.now self.old.pass self.new.pass settings.now.chunk line.now) }
     {
         self.ease(alloc)?;
         match read_request(alloc, settings, line) {

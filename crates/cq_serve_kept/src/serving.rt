@@ -89,9 +89,17 @@ fn serve_logging<
 {
     let log: Log<'_, '_, Q, Work<L>, K, N> = Log::new(rt, sink, pass);
     let served = {
-        let mut doors = KeptDoors { doors, log: &log };
+        let mut kept_doors = KeptDoors { doors, log: &log };
         serve_over(
-            rt, alloc, settings, counters, hub, &log, passes, &mut doors, gate,
+            rt,
+            alloc,
+            settings,
+            counters,
+            hub,
+            &log,
+            passes,
+            &mut kept_doors,
+            gate,
         )?
     };
     let (log, _pass) = log.into_log();

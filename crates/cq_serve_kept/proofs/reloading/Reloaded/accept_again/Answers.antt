@@ -1,20 +1,24 @@
-use Rattle.std.proofs.Common.{◌≡◌, Ok, Result, rules, subst}
+use Rattle.std.proofs.Common.{◌≡◌, ◌∙◌, Ok, ap, subst}
 use Rattle.std.proofs.lemmas.Result.{IfOk-weaker}
 use Rattle.cq_base.specs.declared.change.Change.{Change}
-use Rattle.cq_base.specs.declared.refusal.Refusal.{Refusal}
-use Rattle.cq_request.specs.declared.request.Request.{Request}
-use Rattle.cq_request.specs.declared.request.Request.TheVariants as request
+use Rattle.cq_request.specs.Reading.{line_says}
 use Rattle.cq_serve_kept.specs.Reloads.{TakesAfter}
+use Rattle.cq_serve_kept.proofs.Lowering.{no_query, no_state, same_change}
 use Rattle.cq_serve_kept.proofs.reloading.Reloaded.accept_again.Goals as goal
 
 pub returns-in-Ok-Change-clause-takes : goal.returns-in-Ok-Change-clause-takes
 returns-in-Ok-Change-clause-takes g c =
     let hub = c.args.self.now.hub.now in
-    let left : Result Request Refusal = Ok (request.Change c.in-Ok-Change.change) in
-    let both : left ≡ Ok (request.Change g.wanted) = search rules in
-    let same : c.in-Ok-Change.change ≡ g.wanted = cc (both) in
+    let said = line_says c.args.settings.now.chunk c.args.line.now in
     IfOk-weaker c.accept.result _ _
-    (λ result takes set changes is.
+    (λ result takes wanted says set changes is.
+    let same = same_change said c.in-Ok-Change.change wanted (c.in-Ok-Change.ensures.says ∙ ap Ok c.in-Ok-Change.field-0-is) says in
     let (still, low) = c.in_ok-ease.ensures.low set changes is in
     subst (λ (x : Change). TakesAfter hub c.accept.new.self.pass set changes x result) same (takes set changes still low))
     c.accept.ensures.takes
+
+pub unreachable-requires : goal.unreachable-requires
+unreachable-requires g c = no_query (line_says c.args.settings.now.chunk c.args.line.now) _ c.requires.says.0 (c.in-Ok-Query.ensures.says ∙ ap Ok c.in-Ok-Query.field-0-is) c.requires.says.1
+
+pub unreachable-requires-in-Ok-State : goal.unreachable-requires-in-Ok-State
+unreachable-requires-in-Ok-State g c = no_state (line_says c.args.settings.now.chunk c.args.line.now) c.requires.says.0 (c.in-Ok-State.ensures.says ∙ ap Ok c.in-Ok-State.field-0-is) c.requires.says.1

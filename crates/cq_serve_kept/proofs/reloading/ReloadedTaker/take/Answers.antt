@@ -24,21 +24,27 @@ returns-in-Err-Absent-clause-takes g c = λ lines changes is.
 pub returns-in-Err-Absent-clause-ready : goal.returns-in-Err-Absent-clause-ready
 returns-in-Err-Absent-clause-ready g c = record { in_range = c.requires.ready.in_range; settings = c.requires.ready.settings; of = c.in-Err-Absent.ensures.refused.of }
 
-pub accept_again-in-Err-FullChanges-requires-clause-ready : goal.accept_again-in-Err-FullChanges-requires-clause-ready
-accept_again-in-Err-FullChanges-requires-clause-ready g c = record { in_range = c.requires.ready.in_range; settings = c.requires.ready.settings; of = c.in-Err-FullChanges.ensures.refused.of }
+pub accept_again-requires-clause-ready : goal.accept_again-requires-clause-ready
+accept_again-requires-clause-ready g c = record { in_range = c.requires.ready.in_range; settings = c.requires.ready.settings; of = c.in-Err-FullChanges.ensures.refused.of }
+
+pub accept_again-requires-clause-says : goal.accept_again-requires-clause-says
+accept_again-requires-clause-says g c = (c.args.change, c.requires.says)
 
 pub returns-in-Err-FullChanges-clause-takes : goal.returns-in-Err-FullChanges-clause-takes
 returns-in-Err-FullChanges-clause-takes g c =
     let hub = c.args.self.now.hub.now in
     let set = c.args.settings.now in
     let m = c.accept.new.pass in
-    let q = c.accept_again-in-Err-FullChanges.new.self.pass in
-    IfOk-weaker c.accept_again-in-Err-FullChanges.result _ _
-    (λ result takes lines changes is. taken_as hub set changes q c.args.change _ _ lines c.args.line.now (λ has. has) result (takes set changes (taken_waited hub set changes c.args.self.now.pass is m _ c.in-Err-FullChanges.ensures.refused)))
-    c.accept_again-in-Err-FullChanges.ensures.takes
+    let q = c.accept_again.new.self.pass in
+    IfOk-weaker c.accept_again.result _ _
+    (λ result takes lines changes is. taken_as hub set changes q c.args.change _ _ lines c.args.line.now (λ has. has) result (takes c.args.change c.requires.says set changes (taken_waited hub set changes c.args.self.now.pass is m _ c.in-Err-FullChanges.ensures.refused)))
+    c.accept_again.ensures.takes
 
-pub accept_again-in-Err-FullText-requires-clause-ready : goal.accept_again-in-Err-FullText-requires-clause-ready
-accept_again-in-Err-FullText-requires-clause-ready g c = record { in_range = c.requires.ready.in_range; settings = c.requires.ready.settings; of = c.in-Err-FullText.ensures.refused.of }
+pub accept_again-requires-in-Err-FullText-clause-ready : goal.accept_again-requires-in-Err-FullText-clause-ready
+accept_again-requires-in-Err-FullText-clause-ready g c = record { in_range = c.requires.ready.in_range; settings = c.requires.ready.settings; of = c.in-Err-FullText.ensures.refused.of }
+
+pub accept_again-requires-in-Err-FullText-clause-says : goal.accept_again-requires-in-Err-FullText-clause-says
+accept_again-requires-in-Err-FullText-clause-says g c = (c.args.change, c.requires.says)
 
 pub returns-in-Err-FullText-clause-takes : goal.returns-in-Err-FullText-clause-takes
 returns-in-Err-FullText-clause-takes g c =
@@ -47,5 +53,5 @@ returns-in-Err-FullText-clause-takes g c =
     let m = c.accept.new.pass in
     let q = c.accept_again-in-Err-FullText.new.self.pass in
     IfOk-weaker c.accept_again-in-Err-FullText.result _ _
-    (λ result takes lines changes is. taken_as hub set changes q c.args.change _ _ lines c.args.line.now (λ has. has) result (takes set changes (taken_waited hub set changes c.args.self.now.pass is m _ c.in-Err-FullText.ensures.refused)))
+    (λ result takes lines changes is. taken_as hub set changes q c.args.change _ _ lines c.args.line.now (λ has. has) result (takes c.args.change c.requires.says set changes (taken_waited hub set changes c.args.self.now.pass is m _ c.in-Err-FullText.ensures.refused)))
     c.accept_again-in-Err-FullText.ensures.takes
