@@ -1,10 +1,9 @@
 -- A change is accepted by the first caller's pass, which is leveled before with that of whoever sent it; and the other one is leveled with it after.
-use Rattle.std.proofs.Common.{◌≡◌, ◌⊎◌, ℕ, List, [], ◌∷◌, ◌++◌, Result, Ok, Err, refl, sym, ap, ◌∙◌, subst, inl, inr, append-nil, append_assoc}
+use Rattle.std.proofs.Common.{◌≡◌, ℕ, List, [], ◌∷◌, ◌++◌, Result, Ok, Err, refl, sym, ap, ◌∙◌, subst, inl, inr, append-nil, append_assoc}
 use Rattle.std.specs.Prelude.{IfOk, IfErr, slice_index}
 use Rattle.std.specs.List.{AllByRecursion}
 use mathlib.Core.List.{IsPrefix}
 use Rattle.cq_base.specs.declared.change.Change.{Change}
-use Rattle.cq_board.specs.declared.answers.Refused.{Refused}
 use Rattle.cq_cells.specs.Callers.{longer}
 use Rattle.cq_cells.specs.Passes.{IsSameCaller, by_of}
 use Rattle.cq_cells.specs.Steps.{AreOneHistory}

@@ -1,11 +1,10 @@
 -- What the log has, a change or a refusal later.
-use Rattle.std.proofs.Common.{◌≡◌, ℕ, true, false, List, [], ◌∷◌, ◌++◌, refl, sym, ap, ◌∙◌, subst, append-nil, append_assoc, true≢false}
+use Rattle.std.proofs.Common.{◌≡◌, ℕ, true, List, [], ◌∷◌, ◌++◌, refl, sym, ap, ◌∙◌, subst, append-nil, append_assoc, true≢false}
 use Rattle.std.specs.Prelude.{flat_map}
 use Rattle.std.proofs.KnownBytes.{Appends-trans}
 use Rattle.std.proofs.lemmas.Grind.{flat_map-append}
 use Rattle.std.specs.Io.KnownBytes.{Appends}
 use Rattle.cq_base.specs.declared.change.Change.{Change}
-use Rattle.cq_cells.specs.Passes.{IsFree, by_of}
 use Rattle.cq_chain.specs.Passes as chain
 use Rattle.cq_chain.specs.Passes.{BoardPass}
 use Rattle.cq_history.specs.State.{accepted}
@@ -14,7 +13,7 @@ use Rattle.cq_io.specs.declared.sink.Sink as sink
 use Rattle.cq_lines.specs.LineLogs.{BreaksOff, KeepsLine, Logged}
 use Rattle.cq_talk.specs.Saying.{Says}
 use Rattle.cq_keeper.specs.Firsts.{IsFirst, IsFirstAfter, IsFirstStill}
-use Rattle.cq_keeper.specs.Kept.{SayAll, HasLines, IsCutOff, IsLogOf}
+use Rattle.cq_keeper.specs.Kept.{SayAll, IsLogOf}
 use Rattle.cq_keeper.specs.declared.naming.LogOf as log_of
 use Rattle.cq_lines.specs.Pieces.{ended}
 use Rattle.cq_shared.specs.SharedPasses.{IsPassOf, cells_of}

@@ -4,7 +4,7 @@ use Rattle.std.specs.Io.KnownBytes.{Appends}
 use Rattle.cq_base.specs.declared.change.Change.{Change}
 use Rattle.cq_cells.specs.Passes.{IsFree, by_of}
 use Rattle.cq_chain.specs.Passes as chain
-use Rattle.cq_chain.specs.Passes.{BoardCells, BoardPass}
+use Rattle.cq_chain.specs.Passes.{BoardPass}
 use Rattle.cq_history.specs.State.{accepted}
 use Rattle.cq_io.specs.Causes.{Rose}
 use Rattle.cq_io.specs.declared.sink.Sink as sink

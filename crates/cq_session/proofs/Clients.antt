@@ -1,12 +1,12 @@
 -- Whom a session has met.
-use Rattle.std.proofs.Common.{◌≡◌, ℕ, Bool, true, false, List, [], ◌∷◌, ◌++◌, Option, Some, None, Result, Ok, Err, refl, sym, ap, ◌∙◌, subst, true≢false, inl, inr}
+use Rattle.std.proofs.Common.{◌≡◌, ℕ, Bool, true, false, List, [], ◌∷◌, ◌++◌, Some, None, Result, Ok, Err, refl, sym, ap, ◌∙◌, subst, true≢false, inl, inr}
 use Rattle.cq_base.specs.declared.settings.Settings.{Settings}
 use Rattle.cq_history.specs.declared.event.Event.{Event}
 use Rattle.cq_reply.specs.declared.reply.Reply.{Reply}
 use Rattle.cq_reply.specs.declared.reply.Reply.TheVariants as reply
 use Rattle.cq_base.specs.declared.refusal.Refusal.{Refusal}
 use Rattle.cq_request.specs.declared.request.Request.{Request}
-use Rattle.cq_talk.specs.Said.{Said, said, TooLong, Read}
+use Rattle.cq_talk.specs.Said.{said, Read}
 use Rattle.cq_talk.specs.Talk.{AnswersBy}
 use Rattle.cq_session.specs.Clients.{AreOfClient, HasMet, IsGreeted, IsObject, MayGoOn, is_known, is_nobody, met_at_line, stop_after}
 use Rattle.cq_session.specs.declared.met.Met.{Met}

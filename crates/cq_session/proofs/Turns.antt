@@ -1,5 +1,5 @@
 -- One more line of a talk.
-use Rattle.std.proofs.Common.{◌≡◌, ℕ, ◌≤◌, List, [], ◌∷◌, ◌++◌, length, flat_map, map, max, Bool, true, false, Option, Some, None, Result, Ok, refl, sym, ap, ◌∙◌, subst, subst₂, true≢false}
+use Rattle.std.proofs.Common.{◌≡◌, ℕ, ◌≤◌, List, [], ◌∷◌, ◌++◌, length, flat_map, map, max, Bool, true, false, Option, Some, Result, Ok, refl, sym, ap, ◌∙◌, subst, subst₂, true≢false}
 use Rattle.std.proofs.KnownBytes.{Appends-nil}
 use Rattle.std.proofs.lemmas.List.{append-nil, map-append}
 use Rattle.std.specs.Io.KnownBytes.{Appends}

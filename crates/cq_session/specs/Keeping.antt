@@ -1,5 +1,5 @@
 -- Who accepts the changes of a session, and what it is told of that.
-use Rattle.std.specs.Prelude.{◌≡◌, ℕ, List, [], ◌∷◌, Option, Some, None}
+use Rattle.std.specs.Prelude.{ℕ, [], ◌∷◌, Option, Some, None}
 use Rattle.cq_base.specs.declared.change.Change.{Change}
 use Rattle.cq_board.specs.declared.answers.Refused.{Refused}
 use Rattle.cq_history.specs.declared.event.Event.TheVariants as event

@@ -1,5 +1,5 @@
 -- Where the parts of a line bring the pass of a caller, in the words of its hub.
-use Rattle.std.specs.Prelude.{◌≤◌, ℕ, List, [], ◌∷◌, length, Option, Result, IsSome, Ok as ok}
+use Rattle.std.specs.Prelude.{◌≤◌, ℕ, List, [], ◌∷◌, length, Result, IsSome, Ok as ok}
 use Rattle.std.specs.Result.{is_ok}
 use Rattle.cq_answer.specs.Reply.{IsReply}
 use Rattle.cq_session.specs.Moves.{Moves}

@@ -1,6 +1,6 @@
 ghost use Rattle.std.specs.Prelude.{◌≡◌, ◌-◌, ◌<◌, ◌≤◌, ◌^◌, ℕ, max, [], ◌++◌, IfOk};
 ghost use Rattle.cq_cells.specs.Callers.{longer};
-ghost use Rattle.cq_cells.specs.Passes.{IsSameCaller, by_of, least, with_child, child_of};
+ghost use Rattle.cq_cells.specs.Passes.{IsSameCaller, least, with_child, child_of};
 ghost use Rattle.cq_cells.specs.Steps.{AreOneHistory};
 ghost use Rattle.cq_chain.specs.Passes.{IsOwn, HasNoneFrom};
 ghost use Rattle.cq_hub.specs.Answers.{HasViewOpen, Shuts};

@@ -1,6 +1,5 @@
-use Rattle.std.proofs.Common.{◌≡◌, ◌∷◌, [], subst, sym}
+use Rattle.std.proofs.Common.{◌∷◌, [], subst, sym}
 use mathlib.Core.List.{IsPrefix}
-use Rattle.cq_cells.specs.Passes.{by_of}
 use Rattle.cq_chain.specs.Passes.{BoardPass}
 use Rattle.cq_history.specs.declared.event.Event.TheVariants.{Accept}
 use Rattle.cq_keeper.specs.Firsts.{IsFirst, IsFirstAfter, IsFirstStill}

@@ -1,7 +1,5 @@
-use Rattle.std.proofs.Common.{ap, length, subst, arith}
-use Rattle.std.specs.Prelude.{All}
+use Rattle.std.proofs.Common.{ap, length, arith}
 use Rattle.std.specs.Vec.Iter.{into_iter_items}
-use Rattle.cq_listen.specs.Seats.{IsIdle}
 use Rattle.cq_listen.proofs.Seating.{first_idle, one_more_of, rest_idle}
 use Rattle.cq_listen.proofs.benches.benches_of.Goals as goal
 

@@ -1,4 +1,4 @@
-use Rattle.std.proofs.Common.{◌∙◌, Some, ap, sym, subst, max}
+use Rattle.std.proofs.Common.{◌∙◌, ap, sym, subst, max}
 use Rattle.cq_base.specs.declared.settings.Settings.{Settings}
 use Rattle.std.specs.Io.KnownBytes.{Appends}
 use Rattle.cq_lines.specs.Answering.{SendsFront}
