@@ -1,6 +1,6 @@
 -- What the log has, a change or a refusal later.
-use Rattle.std.proofs.Common.{◌≡◌, ℕ, true, List, [], ◌∷◌, ◌++◌, refl, sym, ap, ◌∙◌, subst, append-nil, append_assoc, true≢false}
-use Rattle.std.specs.Prelude.{flat_map}
+use Rattle.std.proofs.Common.{◌≡◌, ℕ, true, List, [], ◌∷◌, ◌++◌, refl, sym, ap, ◌∙◌, subst, append-nil, append_assoc, true≢false, Result, Ok, Err}
+use Rattle.std.specs.Prelude.{flat_map, OnErr, OnOk}
 use Rattle.std.proofs.KnownBytes.{Appends-trans}
 use Rattle.std.proofs.lemmas.Grind.{flat_map-append}
 use Rattle.std.specs.Io.KnownBytes.{Appends}
@@ -52,7 +52,7 @@ module _ {K N W R : Type 0} (onto : sink.Ghosts K) (of : log_of.Ghosts N) (hub :
 
   module _ (change : Change) (line : List ℕ) (says : Says of.cells.about.settings.chunk line change) (after : IsFirstAfter hub p q change) (log' : Logged K) where
     -- its line was written whole
-    pub kept_more : KeepsLine onto log log' line → IsLogOf onto of log' q
+    kept_more : KeepsLine onto log log' line → IsLogOf onto of log' q
     kept_more kept =
         let was = is.whole kept.was_whole in
         record {
@@ -75,7 +75,7 @@ module _ {K N W R : Type 0} (onto : sink.Ghosts K) (of : log_of.Ghosts N) (hub :
         }
 
     -- a front of it was
-    pub broken_off : log.whole ≡ true → BreaksOff onto log log' line → IsLogOf onto of log' q
+    broken_off : log.whole ≡ true → BreaksOff onto log log' line → IsLogOf onto of log' q
     broken_off whole breaks =
         let was = is.whole whole in
         let front = breaks.first whole in
@@ -102,3 +102,8 @@ module _ {K N W R : Type 0} (onto : sink.Ghosts K) (of : log_of.Ghosts N) (hub :
             rose = subst (λ n. Rose n (onto.faults log'.sink)) was.1 front.rose;
           };
         }
+
+    -- by whether it could be kept
+    pub kept_or_broken : {E : Type 0} (result : Result (Unit {0}) E) → log.whole ≡ true → OnOk result (KeepsLine onto log log' line) → OnErr result (BreaksOff onto log log' line) → IsLogOf onto of log' q
+    kept_or_broken (Ok u) whole kept broken = kept_more kept
+    kept_or_broken (Err e) whole kept broken = broken_off whole broken

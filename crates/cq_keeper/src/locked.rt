@@ -47,7 +47,7 @@ impl<'a, W: Indexed, K: Sink, N: LogOf> Model for Locked<'a, W, K, N> {
 impl<'a, W: Indexed, K: Sink, N: LogOf> Locked<'a, W, K, N> {
     /// The log that begins with what this sink has, by the pass of the first caller.
     pub fn new(sink: &'a mut K, pass: Pass<W>) -> Self
-        requires name { sink.entry.ghost_name ≡ N.name }
+        requires name { sink.ghost_name ≡ N.name }
         requires log { IsLogOf K.Sink N.LogOf (log_at sink.old true) pass }
         ensures { result ≡ true }
     {
@@ -113,7 +113,7 @@ impl<'a, W: Indexed, K: Sink, N: LogOf> Locked<'a, W, K, N> {
 
     /// The log, with the pass by which its changes were accepted.
     pub fn into_log(self) -> (LineLog<'a, K>, Pass<W>)
-        ensures whole { result.0.whole ≡ self }
+        ensures whole { result.0.whole ≡ self.entry }
         ensures name { result.0.sink.ghost_name ≡ N.name }
         ensures log { IsLogOf K.Sink N.LogOf (log_at result.0.sink.now result.0.whole) result.1 }
     {

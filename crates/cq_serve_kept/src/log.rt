@@ -25,7 +25,7 @@ pub struct Log<'a, 's, Q, W: Indexed, K: Sink, N: LogOf> {
 impl<'a, 's, Q: Wait, W: Indexed, K: Sink, N: LogOf> Log<'a, 's, Q, W, K, N> {
     /// The log that begins with what this sink has, by the pass of the first caller.
     pub fn new(rt: &'a Q, sink: &'s mut K, pass: Pass<W>) -> Self
-        requires name { sink.entry.ghost_name ≡ N.name }
+        requires name { sink.ghost_name ≡ N.name }
         requires log { IsLogOf K.Sink N.LogOf (log_at sink.old true) pass }
     {
         Log {

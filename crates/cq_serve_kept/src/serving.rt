@@ -79,7 +79,7 @@ fn serve_logging<
     requires own { IsIdle hub.now passes.own }
     requires few { vec_len passes.sessions ≤ 64 }
     requires bound { IsSome (D.bound doors.old) }
-    requires name { sink.entry.ghost_name ≡ N.name }
+    requires name { sink.ghost_name ≡ N.name }
     requires cells { cells_of hub.now ≡ N.cells }
     requires begun { K.written sink.old ≡ N.begun }
     requires before { accepted pass.seen ≡ N.before }

@@ -2,9 +2,10 @@ use Rattle.std.proofs.Common.{◌∷◌, [], subst, sym}
 use mathlib.Core.List.{IsPrefix}
 use Rattle.cq_chain.specs.Passes.{BoardPass}
 use Rattle.cq_history.specs.declared.event.Event.TheVariants.{Accept}
+use Rattle.cq_hub.specs.Says.{IsAcceptedAs, IsRefusedFor}
 use Rattle.cq_keeper.specs.Firsts.{IsFirst, IsFirstAfter, IsFirstStill}
 use Rattle.cq_shared.specs.Calls.{Calls}
-use Rattle.cq_shared.specs.SharedPasses.{IsPassOf}
+use Rattle.cq_shared.specs.SharedPasses.{IsPassOf, callers_of, settings_of}
 use Rattle.cq_keeper.proofs.Leveling.{begins_left, begins_right, call_passed, first_leveled, first_after, first_still, if_ok, if_err, sees_passed}
 use Rattle.cq_keeper.proofs.accepting.accept_by_first.Goals as goal
 
@@ -21,8 +22,8 @@ returns-clause-accepted g c =
     let of_p : IsPassOf hub c.level.new.other = subst (IsPassOf hub) (sym e.other) c.requires.of in
     let begins : IsPrefix c.level.new.other.seen l.seen = subst (λ (z : BoardPass). IsPrefix z.seen l.seen) (sym e.other) (subst (IsPrefix p.seen) (sym e.seen) (begins_right f.seen p.seen e.one_history)) in
     if_ok c.accept-result.result _ _ c.accept-result.ensures.accepted (λ number call.
-    subst (λ (z : BoardPass). Calls hub z q (Accept 0 c.args.change ∷ []) _) e.other
-    (subst (λ n. Calls hub c.level.new.other q (Accept n c.args.change ∷ []) _) leveled.caller (call_passed hub c.level.new.other l c.accept-result.new.pass q _ _ call of_p begins two.of two.same two.seen two.own)))
+    subst (λ (z : BoardPass). Calls hub z q (Accept 0 c.args.change ∷ []) (IsAcceptedAs (settings_of hub) (callers_of hub) c.args.change number)) e.other
+    (subst (λ n. Calls hub c.level.new.other q (Accept n c.args.change ∷ []) (IsAcceptedAs (settings_of hub) (callers_of hub) c.args.change number)) leveled.caller (call_passed hub c.level.new.other l c.accept-result.new.pass q _ _ call of_p begins two.of two.same two.seen two.own)))
 
 pub returns-clause-refused : goal.returns-clause-refused
 returns-clause-refused g c =
@@ -36,7 +37,7 @@ returns-clause-refused g c =
     let of_p : IsPassOf hub c.level.new.other = subst (IsPassOf hub) (sym e.other) c.requires.of in
     let begins : IsPrefix c.level.new.other.seen l.seen = subst (λ (z : BoardPass). IsPrefix z.seen l.seen) (sym e.other) (subst (IsPrefix p.seen) (sym e.seen) (begins_right f.seen p.seen e.one_history)) in
     if_err c.accept-result.result _ _ c.accept-result.ensures.refused (λ cause call.
-    subst (λ (z : BoardPass). Calls hub z q [] _) e.other (call_passed hub c.level.new.other l c.accept-result.new.pass q _ _ call of_p begins two.of two.same two.seen two.own))
+    subst (λ (z : BoardPass). Calls hub z q [] (IsRefusedFor (settings_of hub) (callers_of hub) c.args.change cause)) e.other (call_passed hub c.level.new.other l c.accept-result.new.pass q _ _ call of_p begins two.of two.same two.seen two.own))
 
 pub returns-clause-sees : goal.returns-clause-sees
 returns-clause-sees g c =

@@ -1,7 +1,7 @@
 use Rattle.std.proofs.Common.{refl, ◌∙◌, subst}
 use Rattle.cq_lines.specs.LineLogs.{log_at}
 use Rattle.cq_talk.specs.Saying.{Says}
-use Rattle.cq_keeper.proofs.Writing.{first_of, refused_still, kept_more, broken_off}
+use Rattle.cq_keeper.proofs.Writing.{first_of, kept_or_broken, refused_still}
 use Rattle.cq_shared.proofs.Calling.{stays}
 use Rattle.cq_keeper.proofs.locked.Locked.accept.Goals as goal
 
@@ -14,11 +14,8 @@ accept_by_first-requires-clause-first g c =
     let p = c.self.inside.pass in
     first_of g.K.Sink g.N.LogOf c.args.hub.now c.requires.keeps (log_at log.sink.now log.whole) p p c.self.invariant.1 c.args.pass.now c.requires.of
 
-pub returns-in-Err-keep-clause-refused : goal.returns-in-Err-keep-clause-refused
-returns-in-Err-keep-clause-refused g c = c.accept_by_first.ensures.sees
-
-pub invariant_of-self-in-Ok-keep : goal.invariant_of-self-in-Ok-keep
-invariant_of-self-in-Ok-keep g c =
+pub invariant_of-self : goal.invariant_of-self
+invariant_of-self g c =
     let hub = c.args.hub.now in
     let old = c.self.inside.log in
     let new = c.keep.new.self in
@@ -26,19 +23,7 @@ invariant_of-self-in-Ok-keep g c =
     let q = c.accept_by_first.new.first in
     let says = subst (λ cells. Says cells.about.settings.chunk c.args.line.now c.args.change) c.requires.keeps c.requires.says in (
       c.keep.ensures.same_reference ∙ c.self.invariant.0,
-      kept_more g.K.Sink g.N.LogOf hub c.requires.keeps (log_at old.sink.now old.whole) p q c.self.invariant.1 c.args.change c.args.line.now says c.in-Ok.ensures.first (log_at new.sink.now new.whole) c.in-Ok-keep.ensures.kept,
-    )
-
-pub invariant_of-self-in-Err-keep : goal.invariant_of-self-in-Err-keep
-invariant_of-self-in-Err-keep g c =
-    let hub = c.args.hub.now in
-    let old = c.self.inside.log in
-    let new = c.keep.new.self in
-    let p = c.self.inside.pass in
-    let q = c.accept_by_first.new.first in
-    let says = subst (λ cells. Says cells.about.settings.chunk c.args.line.now c.args.change) c.requires.keeps c.requires.says in (
-      c.keep.ensures.same_reference ∙ c.self.invariant.0,
-      broken_off g.K.Sink g.N.LogOf hub c.requires.keeps (log_at old.sink.now old.whole) p q c.self.invariant.1 c.args.change c.args.line.now says c.in-Ok.ensures.first (log_at new.sink.now new.whole) c.if-not-self.false c.in-Err-keep.ensures.broken,
+      kept_or_broken g.K.Sink g.N.LogOf hub c.requires.keeps (log_at old.sink.now old.whole) p q c.self.invariant.1 c.args.change c.args.line.now says c.in-Ok.ensures.first (log_at new.sink.now new.whole) c.keep.result c.if-not-self.false c.keep.ensures.kept c.keep.ensures.broken,
     )
 
 pub invariant_of-self-in-Err : goal.invariant_of-self-in-Err
