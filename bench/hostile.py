@@ -455,6 +455,7 @@ TABLE = [
     Shape("requests", "n members of different names", 50_000, "n log n", lambda n: members(n, "m{:07}".format), is_refused=True),
     Shape("requests", "n members of different names, from the last on", 50_000, "n log n", lambda n: members(n, lambda at: f"m{9_999_999 - at}"), is_refused=True),
     Shape("requests", "n members of the same name", 100_000, "n", lambda n: members(n, lambda _: "m"), is_refused=True),
+    Shape("requests", "n members of the same name, which queries have, each a number", 100_000, "n", lambda n: members(n, lambda _: "at"), is_refused=True),
     Shape("requests", "n members with names of 40 bytes that differ at the end", 25_000, "n log n", lambda n: members(n, "m{:040}".format), is_refused=True),
     Shape("requests", "conditions, n bytes", 1_000_000, "n", conditions, is_refused=True),
     Shape("requests", "a list that is not closed, n bytes", 2_000_000, "n", lambda n: Sent([], [b'{"x":[' + b"[]," * (n // 3) + b"\n"]), is_refused=True),

@@ -12,11 +12,12 @@ use crate::listing::groups_of;
 use crate::measuring::measures_of;
 use crate::part::{Part, part_of};
 use crate::placing::group_rows;
+use crate::project::ProjectAt;
 use crate::showing::file_rows;
-use cq_base::{Condition, Group, Memory, Settings, Steps};
+use cq_base::{Group, Memory, Steps};
 use cq_groups::Buckets;
 use cq_measures::verdict;
-use cq_projects::{Held, ProjectFiles};
+use cq_projects::Held;
 use cq_reply::Reply;
 use cq_request::{Kind, Query};
 use cq_work::Work;
@@ -25,47 +26,54 @@ use std::sync::Arc;
 use std::sync::ledger::Ledger;
 use std::thread::Threads;
 
-// The reply to a query, from the groups that it lists.
+// What a query lists of a project, with its groups.
+#[derive(Drop)]
+struct Found<'a> {
+    part: Part,
+    groups: &'a [Group],
+}
+
+// The reply to a query, from what it lists.
 fn reply_of<R: Threads + Sync, L: Ledger>(
     rt: &R,
     alloc: Global,
     files: &[Arc<Held<Work<L>>, Global>],
-    conditions: &[Condition],
+    at: &ProjectAt<'_, L>,
     query: &Query,
-    part: Part,
-    version: u64,
-    groups: &[Group],
+    found: &Found<'_>,
 ) -> Result<Reply, Memory>
-    requires few { length conditions.now ≤ 32 }
-    requires within { IsWithin (length files.now) part }
+    requires few { length at.now.conditions.now ≤ 32 }
+    requires within { IsWithin (length files.now) found.now.part }
     requires scope { IsPattern query.now.scope }
     requires numbered { AreNumbered (works_in files.now) }
-    requires measurable { AreShowable (facts_in (works_in files.now)) groups.now }
+    requires measurable { AreShowable (facts_in (works_in files.now)) found.now.groups.now }
     requires few_functions { AreFewFunctions (facts_in (works_in files.now)) }
-    ensures { IfOk result (ShowsGroups files.now conditions.now version query.now part groups.now) }
+    ensures { IfOk result (ShowsGroups files.now at.now.conditions.now at.now.version query.now
+        found.now.part found.now.groups.now) }
 {
+    let version = at.version;
     match query.kind {
         Kind::Files => Ok(Reply::Files {
             files: file_rows(alloc, files)?,
             version,
         }),
         Kind::Groups => Ok(Reply::Groups {
-            groups: group_rows(alloc, files, groups)?,
+            groups: group_rows(alloc, files, found.groups)?,
             version,
         }),
         Kind::Measures => Ok(Reply::Measures {
-            measures: measures_of(rt, alloc, files, query, part, groups)?,
+            measures: measures_of(rt, alloc, files, query, found.part, found.groups)?,
             version,
         }),
         Kind::Verdict => {
-            let measures = measures_of(rt, alloc, files, query, part, groups)?;
+            let measures = measures_of(rt, alloc, files, query, found.part, found.groups)?;
             Ok(Reply::Verdict {
-                verdict: verdict(alloc, conditions, &measures)?,
+                verdict: verdict(alloc, at.conditions, &measures)?,
                 version,
             })
         }
         Kind::Functions => {
-            let (functions, worst) = functions_in(alloc, files, part)?;
+            let (functions, worst) = functions_in(alloc, files, found.part)?;
             Ok(Reply::Functions {
                 functions,
                 version,
@@ -85,41 +93,47 @@ fn reply_of<R: Threads + Sync, L: Ledger>(
 pub fn answer<R: Threads + Sync, B: Buckets, L: Ledger>(
     rt: &R,
     alloc: Global,
-    settings: &Settings,
-    files: &ProjectFiles<Work<L>>,
-    conditions: &[Condition],
+    at: &ProjectAt<'_, L>,
     query: &Query,
-    version: u64,
     buckets: &mut B,
     steps: &mut Steps<L>,
 ) -> Result<Reply, Memory>
-    requires settings { IsInRange settings.now }
-    requires given { AreGiven settings.now files.now conditions.now }
-    requires long { settings.now.chunk ≤ query.now.min }
+    requires settings { IsInRange at.now.settings.now }
+    requires given { AreGiven at.now.settings.now at.now.files.now at.now.conditions.now }
+    requires long { at.now.settings.now.chunk ≤ query.now.min }
     requires path { HasPath query.now.kind query.now.path }
     requires scope { HasScope query.now.path query.now.scope }
-    requires for_changes { B.file_changes buckets.old ≡ numbers_in files.now }
-    requires for_keys { B.file_keys buckets.old ≡ keys_in files.now }
+    requires for_changes { B.file_changes buckets.old ≡ numbers_in at.now.files.now }
+    requires for_keys { B.file_keys buckets.old ≡ keys_in at.now.files.now }
     requires ready { B.ready buckets.old }
-    ensures given { IfOk result (IsReplyOf files.now conditions.now query.now version) }
+    ensures given { IfOk result
+        (IsReplyOf at.now.files.now at.now.conditions.now query.now at.now.version) }
     ensures reply { IfOk result
-        (IsReplyOn settings.now version query.now files.now conditions.now) }
+        (IsReplyOn at.now.settings.now at.now.version query.now
+        at.now.files.now at.now.conditions.now) }
     ensures texts { IfOk result IsReplyText }
-    ensures asks { OnOk result (AsksGiven B.Buckets files.now query.now buckets.old buckets.new) }
-    ensures asks_most { AsksGivenAtMost B.Buckets files.now query.now buckets.old buckets.new }
-    ensures reads_most { ReadsGiven files.now query.now steps.old steps.new }
+    ensures asks { OnOk result
+        (AsksGiven B.Buckets at.now.files.now query.now buckets.old buckets.new) }
+    ensures asks_most { AsksGivenAtMost B.Buckets at.now.files.now query.now buckets.old buckets.new }
+    ensures reads_most { ReadsGiven at.now.files.now query.now steps.old steps.new }
     ensures asked { OnOk result
-        (AsksOn B.Buckets settings.now version query.now files.now buckets.old buckets.new) }
-    ensures asked_most { AsksAtMostOn B.Buckets settings.now version query.now files.now
-        buckets.old buckets.new }
+        (AsksOn B.Buckets at.now.settings.now at.now.version query.now at.now.files.now
+        buckets.old buckets.new) }
+    ensures asked_most { AsksAtMostOn B.Buckets at.now.settings.now at.now.version query.now
+        at.now.files.now buckets.old buckets.new }
     ensures same_changes { B.file_changes buckets.new ≡ B.file_changes buckets.old }
     ensures same_keys { B.file_keys buckets.new ≡ B.file_keys buckets.old }
     ensures ready { B.ready buckets.new }
     ensures moved { B.moved buckets.old buckets.new }
-    ensures reads { ReadsOn settings.now version query.now files.now steps.old steps.new }
+    ensures reads { ReadsOn at.now.settings.now at.now.version query.now at.now.files.now
+        steps.old steps.new }
 {
-    let part = part_of(files, query);
-    let groups = groups_of(alloc, settings, files, part, query.min, buckets, steps)?;
-    let items = files.items();
-    reply_of(rt, alloc, items, conditions, query, part, version, &groups)
+    let part = part_of(at.files, query);
+    let groups = groups_of(alloc, at, part, query.min, buckets, steps)?;
+    let items = at.files.items();
+    let found = Found {
+        part,
+        groups: &groups,
+    };
+    reply_of(rt, alloc, items, at, query, &found)
 }

@@ -4,46 +4,45 @@ ghost use Rattle.cq_answer.specs.Versions.{AreListable};
 ghost use Rattle.cq_answer.specs.Works.{norms_in, keys_in, numbers_in};
 
 use crate::part::Part;
+use crate::project::ProjectAt;
 use crate::works::WorkFiles;
-use cq_base::{Group, Memory, Settings, Steps};
+use cq_base::{Group, Memory, Steps};
 use cq_groups::{Buckets, Index, list_all, list_file};
-use cq_projects::ProjectFiles;
 use cq_tokens::Corpus;
-use cq_work::Work;
 use std::alloc::Global;
 use std::sync::ledger::Ledger;
 
 /// The groups of a part of the files, in order. It asks once for each different key of the part's windows.
 pub(crate) fn groups_of<B: Buckets, L: Ledger>(
     alloc: Global,
-    settings: &Settings,
-    files: &ProjectFiles<Work<L>>,
+    at: &ProjectAt<'_, L>,
     part: Part,
     min: u32,
     buckets: &mut B,
     steps: &mut Steps<L>,
 ) -> Result<Vec<Group>, Memory>
-    requires listable { AreListable settings.now files.now }
-    requires within { IsWithin (length files.now) part }
-    requires long { settings.now.chunk ≤ min }
-    requires for_changes { B.file_changes buckets.old ≡ numbers_in files.now }
-    requires for_keys { B.file_keys buckets.old ≡ keys_in files.now }
+    requires listable { AreListable at.now.settings.now at.now.files.now }
+    requires within { IsWithin (length at.now.files.now) part }
+    requires long { at.now.settings.now.chunk ≤ min }
+    requires for_changes { B.file_changes buckets.old ≡ numbers_in at.now.files.now }
+    requires for_keys { B.file_keys buckets.old ≡ keys_in at.now.files.now }
     requires ready { B.ready buckets.old }
     ensures groups { IfOk result
-        (λ groups. AreGroupsOf (norms_in files.now) min part groups.items) }
+        (λ groups. AreGroupsOf (norms_in at.now.files.now) min part groups.items) }
     ensures asked { OnOk result
-        (AsksPart (keys_in files.now) part (B.asked buckets.old) (B.asked buckets.new)) }
-    ensures asked_most { AsksPartAtMost (keys_in files.now) part
+        (AsksPart (keys_in at.now.files.now) part (B.asked buckets.old) (B.asked buckets.new)) }
+    ensures asked_most { AsksPartAtMost (keys_in at.now.files.now) part
         (B.asked buckets.old) (B.asked buckets.new) }
     ensures same_changes { B.file_changes buckets.new ≡ B.file_changes buckets.old }
     ensures same_keys { B.file_keys buckets.new ≡ B.file_keys buckets.old }
     ensures ready { B.ready buckets.new }
     ensures moved { B.moved buckets.old buckets.new }
-    ensures reads { ReadsPart (norms_in files.now) (keys_in files.now) part steps.old steps.new }
+    ensures reads { ReadsPart (norms_in at.now.files.now) (keys_in at.now.files.now) part
+        steps.old steps.new }
 {
-    let works = WorkFiles { files };
-    let corpus = Corpus::new(settings.chunk, &works);
-    let index = Index::new(corpus, files.spots());
+    let works = WorkFiles { files: at.files };
+    let corpus = Corpus::new(at.settings.chunk, &works);
+    let index = Index::new(corpus, at.files.spots());
     match part {
         Part::Whole => list_all(alloc, &index, min, buckets, steps),
         Part::File(file) => list_file(alloc, &index, file, min, buckets, steps),

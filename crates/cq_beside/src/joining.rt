@@ -52,52 +52,57 @@ pub(crate) trait Talker<L: Ledger, R: Wait> {
             pass.old.seen pass.new.seen pass.new.asked };
 }
 
-// A worker by a keyer of its own.
-fn labour<Q: Wait, L: Ledger, R: Wait, G: Gate>(
-    rt: &Q,
-    alloc: Global,
-    settings: &Settings,
-    hub: &Shared<Work<L>, R>,
-    pass: Pass<Work<L>>,
-    gate: &G,
-    bell: &Bell,
-) -> Pass<Work<L>>
-    requires in_range { IsInRange settings.now }
-    requires settings { settings_of hub.now ≡ settings.now }
-    requires of { IsPassOf hub.now pass }
-    ensures worked { Worked hub.now pass result }
-{
-    let keyer = Keyer::plain(settings);
-    let server = Server {
-        alloc,
-        keyer: &keyer,
-        hub,
-        keeper: &NoLog,
-        gate,
-    };
-    work(rt, &server, pass, bell)
+/// What a talk and the workers beside it share.
+#[derive(Drop)]
+pub(crate) struct Floor<'a, Q, L: Ledger, R, G> {
+    pub(crate) rt: &'a Q,
+    pub(crate) alloc: Global,
+    pub(crate) settings: &'a Settings,
+    pub(crate) hub: &'a Shared<Work<L>, R>,
+    pub(crate) gate: &'a G,
+    pub(crate) bell: &'a Bell,
 }
 
-// The talk, on a pass of its own, which ends in this one. Behind it nobody sleeps on the bell.
-fn apart<Q: Threads + Wait + Sync, L: Ledger, R: Wait, T: Talker<L, R>>(
-    rt: &Q,
-    hub: &Shared<Work<L>, R>,
-    bell: &Bell,
+// A worker by a keyer of its own.
+fn labour<Q: Wait, L: Ledger, R: Wait, G: Gate>(
+    floor: &Floor<'_, Q, L, R, G>,
+    pass: Pass<Work<L>>,
+) -> Pass<Work<L>>
+    requires in_range { IsInRange floor.now.settings.now }
+    requires settings { settings_of floor.now.hub.now ≡ floor.now.settings.now }
+    requires of { IsPassOf floor.now.hub.now pass }
+    ensures worked { Worked floor.now.hub.now pass result }
+{
+    let keyer = Keyer::plain(floor.settings);
+    let server = Server {
+        rt: floor.rt,
+        alloc: floor.alloc,
+        keyer: &keyer,
+        hub: floor.hub,
+        keeper: &NoLog,
+        gate: floor.gate,
+    };
+    work(&server, pass, floor.bell)
+}
+
+// The talk, on a pass of its own, which ends in this one. After it nobody sleeps on the bell.
+fn apart<Q: Threads + Wait + Sync, L: Ledger, R: Wait, G, T: Talker<L, R>>(
+    floor: &Floor<'_, Q, L, R, G>,
     talker: T,
     pass: Pass<Work<L>>,
 ) -> (T::Told, Pass<Work<L>>)
     requires may { T.MayTalk talker }
-    requires talks { settings_of hub.now ≡ T.settings talker }
-    requires of { IsPassOf hub.now pass }
+    requires talks { settings_of floor.now.hub.now ≡ T.settings talker }
+    requires of { IsPassOf floor.now.hub.now pass }
     requires room { 0 < pass.room }
-    ensures besides { Besides hub.now pass 0 result.1
-        (T.Said talker result.0 (callers_of hub.now)) }
+    ensures besides { Besides floor.now.hub.now pass 0 result.1
+        (T.Said talker result.0 (callers_of floor.now.hub.now)) }
 {
     let mut pass = pass;
-    let mut own = hub.split_pass(&mut pass);
-    let told = talker.talk(rt, hub, &mut own);
-    bell.end(rt);
-    hub.join_pass(&mut pass, own);
+    let mut own = floor.hub.split_pass(&mut pass);
+    let told = talker.talk(floor.rt, floor.hub, &mut own);
+    floor.bell.end(floor.rt);
+    floor.hub.join_pass(&mut pass, own);
     (told, pass)
 }
 
@@ -110,47 +115,44 @@ pub(crate) fn beside<
     G: Gate + Sync,
     T: Talker<L, R> + Drop,
 >(
-    rt: &Q,
-    alloc: Global,
-    settings: &Settings,
-    hub: &Shared<Work<L>, R>,
-    gate: &G,
-    bell: &Bell,
+    floor: &Floor<'_, Q, L, R, G>,
     workers: u32,
     talker: T,
     pass: Pass<Work<L>>,
 ) -> (T::Told, Pass<Work<L>>)
-    requires in_range { IsInRange settings.now }
-    requires settings { settings_of hub.now ≡ settings.now }
+    requires in_range { IsInRange floor.now.settings.now }
+    requires settings { settings_of floor.now.hub.now ≡ floor.now.settings.now }
     requires may { T.MayTalk talker }
-    requires talks { settings_of hub.now ≡ T.settings talker }
-    requires of { IsPassOf hub.now pass }
+    requires talks { settings_of floor.now.hub.now ≡ T.settings talker }
+    requires of { IsPassOf floor.now.hub.now pass }
     requires room { workers < pass.room }
-    ensures besides { Besides hub.now pass workers result.1
-        (T.Said talker result.0 (callers_of hub.now)) }
+    ensures besides { Besides floor.now.hub.now pass workers result.1
+        (T.Said talker result.0 (callers_of floor.now.hub.now)) }
 {
     if workers == 0 {
-        return apart(rt, hub, bell, talker, pass);
+        return apart(floor, talker, pass);
     }
     let mut pass = pass;
     let fewer = workers - 1;
-    let mine = hub.split_pass(&mut pass);
+    let mine = floor.hub.split_pass(&mut pass);
     let (mine, rest) = join(
-        rt,
+        floor.rt,
         move || -> Pass<Work<L>>
-            requires { IsInRange settings.now × (settings_of hub.now ≡ settings.now)
-                × IsPassOf hub.now mine }
-            ensures { Worked hub.entry.now mine result }
-        { labour(rt, alloc, settings, hub, mine, gate, bell) },
+            requires { IsInRange floor.now.settings.now
+                × (settings_of floor.now.hub.now ≡ floor.now.settings.now)
+                × IsPassOf floor.now.hub.now mine }
+            ensures { Worked floor.entry.now.hub.now mine result }
+        { labour(floor, mine) },
         move || -> (T::Told, Pass<Work<L>>)
-            requires { IsInRange settings.now × (settings_of hub.now ≡ settings.now)
-                × T.MayTalk talker × (settings_of hub.now ≡ T.settings talker)
-                × IsPassOf hub.now pass × (fewer < pass.room) }
-            ensures { Besides hub.entry.now pass fewer result.1
-                (T.Said talker result.0 (callers_of hub.entry.now)) }
-        { beside(rt, alloc, settings, hub, gate, bell, fewer, talker, pass) },
+            requires { IsInRange floor.now.settings.now
+                × (settings_of floor.now.hub.now ≡ floor.now.settings.now)
+                × T.MayTalk talker × (settings_of floor.now.hub.now ≡ T.settings talker)
+                × IsPassOf floor.now.hub.now pass × (fewer < pass.room) }
+            ensures { Besides floor.entry.now.hub.now pass fewer result.1
+                (T.Said talker result.0 (callers_of floor.entry.now.hub.now)) }
+        { beside(floor, fewer, talker, pass) },
     );
     let (told, mut pass) = rest;
-    hub.join_pass(&mut pass, mine);
+    floor.hub.join_pass(&mut pass, mine);
     (told, pass)
 }

@@ -6,4 +6,4 @@
 mod joining;
 mod serving;
 
-pub use serving::serve_one;
+pub use serving::{Crew, serve_one};

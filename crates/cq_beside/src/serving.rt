@@ -7,7 +7,7 @@ ghost use Rattle.cq_shared.specs.SharedPasses.{IsPassOf, settings_of, callers_of
 ghost use Rattle.cq_beside.specs.Replies.{AreWithWorkers};
 ghost use Rattle.cq_beside.specs.Served.{IsServed, IsFirst};
 
-use crate::joining::{Talker, beside};
+use crate::joining::{Floor, Talker, beside};
 use cq_base::Steps;
 use cq_chain::Pass;
 use cq_io::{Gate, Sink, Source};
@@ -78,13 +78,14 @@ impl<'a, L: Ledger, R: Wait, S: Source, K: Sink, G: Gate> Talker<L, R> for Servi
             steps,
         } = self;
         let server = Server {
+            rt,
             alloc,
             keyer,
             hub,
             keeper: &NoLog,
             gate,
         };
-        let end = session(rt, &server, pass, lines, source, sink, steps);
+        let end = session(&server, pass, lines, source, sink, steps);
         Over {
             source,
             sink,
@@ -101,9 +102,16 @@ fn take_back<S, K, T>(source: &mut S, sink: &mut K, steps: &mut T)
     ensures steps { steps.new ≡ steps.old }
 {}
 
-/// One session on this thread, with so many workers beside it until its end. Each worker has a thread, a pass and a keyer
+/// So many workers, whose passes are split from this one.
+#[derive(Drop)]
+pub struct Crew<L: Ledger> {
+    pub workers: u32,
+    pub pass: Pass<Work<L>>,
+}
+
+/// One session on this thread, with workers beside it until its end. Each worker has a thread, a pass and a keyer
 /// of its own, and sleeps on a bell that rings after each accepted change. One for which no thread can be made runs after
-/// the session, and ends at once. The passes of the workers, and then that of the session, are split from this one, such as
+/// the session, and ends at once. The passes of the workers, and then that of the session, are split from the crew's, such as
 /// a new hub's first pass, and end in it. The gate is told what `session` and the workers' turns tell it, from their threads.
 pub fn serve_one<
     Q: Threads + Wait + Sync,
@@ -113,26 +121,24 @@ pub fn serve_one<
     K: Sink,
     G: Gate + Sync,
 >(
-    rt: &Q,
-    server: &Server<'_, Shared<Work<L>, R>, NoLog, G>,
-    pass: Pass<Work<L>>,
+    server: &Server<'_, Q, Shared<Work<L>, R>, NoLog, G>,
+    crew: Crew<L>,
     lines: &mut Lines,
     source: &mut S,
     sink: &mut K,
-    workers: u32,
     steps: &mut Steps<L>,
 ) -> End
     requires fresh { IsFresh lines.old }
     requires in_range { IsInRange server.now.keyer.now.settings }
     requires hub_settings { settings_of server.now.hub.now ≡ server.now.keyer.now.settings }
-    requires of { IsPassOf server.now.hub.now pass }
-    requires room { workers < pass.room }
+    requires of { IsPassOf server.now.hub.now crew.pass }
+    requires room { crew.workers < crew.pass.room }
     ensures served { IsServed S.Source K.Sink server.now.keyer.now.settings
-        (callers_of server.now.hub.now) (pass.next + workers) pass.seen steps.old steps.new
+        (callers_of server.now.hub.now) (crew.pass.next + crew.workers) crew.pass.seen steps.old steps.new
         lines.old.limit source.old source.new sink.old sink.new result }
-    ensures beside { IsFirst server.now.hub.now pass
+    ensures beside { IsFirst server.now.hub.now crew.pass
         → ServesLines S.Source K.Sink line_of
-        (AreWithWorkers server.now.keyer.now.settings (callers_of server.now.hub.now) workers steps.old steps.new)
+        (AreWithWorkers server.now.keyer.now.settings (callers_of server.now.hub.now) crew.workers steps.old steps.new)
         lines.old.limit source.old source.new sink.old sink.new result }
     ensures cause { HasCauseOfEnd S.Source K.Sink source.old source.new sink.old sink.new result }
 {
@@ -140,7 +146,7 @@ pub fn serve_one<
     let ringing = RingingGate {
         gate: server.gate,
         bell: &bell,
-        rt,
+        rt: server.rt,
     };
     let serving = Serving {
         alloc: server.alloc,
@@ -151,17 +157,15 @@ pub fn serve_one<
         gate: &ringing,
         steps,
     };
-    let (over, _pass) = beside(
-        rt,
-        server.alloc,
-        &server.keyer.settings,
-        server.hub,
-        server.gate,
-        &bell,
-        workers,
-        serving,
-        pass,
-    );
+    let floor = Floor {
+        rt: server.rt,
+        alloc: server.alloc,
+        settings: &server.keyer.settings,
+        hub: server.hub,
+        gate: server.gate,
+        bell: &bell,
+    };
+    let (over, _pass) = beside(&floor, crew.workers, serving, crew.pass);
     let Over {
         source,
         sink,

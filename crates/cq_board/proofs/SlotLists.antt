@@ -25,6 +25,14 @@ free_undone false b h = refl
 pub free_not_done : (slot : Slot) → is_free slot ≡ true → is_done slot ≡ false
 free_not_done slot h = free_undone (is_done slot) (is_none slot.holder) h
 
+undone_put : (a b : Bool) → (not a || b) ≡ false → a ≡ true
+undone_put true b h = refl
+undone_put false b h = absurd (true≢false h)
+
+-- only a put can be undone
+pub undone_is_put : (slot : Slot) → is_done slot ≡ false → is_put slot.change ≡ true
+undone_is_put slot h = undone_put (is_put slot.change) slot.finished h
+
 -- the first free change, where there is one
 pub first_is_free : (slots : List Slot) (i : ℕ) → i ≡ position_or_len is_free slots → i < length slots → is_free (slot_at slots (i + 1)) ≡ true
 first_is_free slots i first within =

@@ -1,11 +1,11 @@
-ghost use Rattle.std.specs.Prelude.{◌≡◌, ◌≤◌, [], ◌↔◌, true, length, IfOk, IfSome, IsSome, IsTrue, OnOk, OnErr};
+ghost use Rattle.std.specs.Prelude.{◌≡◌, ◌≤◌, [], ◌↔◌, true, false, length, IfOk, IfSome, IsSome, IsTrue, OnOk, OnErr};
 ghost use Rattle.std.specs.List.{prefix_len};
 ghost use Rattle.cq_history.specs.Changes.{is_put};
 ghost use Rattle.cq_history.specs.State.{is_done, IsUndone, IsTakenBy};
 ghost use Rattle.cq_kept.specs.Accepted.{Holds, bare_state};
 ghost use Rattle.cq_board.specs.Answers.{IsJobOf, IsKeptWork};
 ghost use Rattle.cq_board.specs.Calls.{IsWorkHeld};
-ghost use Rattle.cq_kept.specs.Slots.{slot_from, slot_at, change_of, state_from};
+ghost use Rattle.cq_kept.specs.Slots.{slot_from, slot_at, change_of, has_text, state_from};
 ghost use Rattle.cq_board.specs.Undone.{AreUndone, AreUndoneWith};
 
 use crate::Job;
@@ -33,6 +33,7 @@ pub fn undone_at<W: Indexed>(changes: &Changes<W>, number: u64) -> Option<&Kept<
     requires { changes.now.floor ≤ prefix_len is_done changes.now.slots }
     ensures some { IsSome result ↔ IsUndone (state_from changes.now.slots 0 0 []) number }
     ensures slot { IfSome result (λ kept. slot_from kept.now ≡ slot_at changes.now.slots number) }
+    ensures text { IfSome result (λ kept. has_text kept.now.change ≡ true) }
 {
     match changes.get(number) {
         Some(kept) => { if is_done(kept) { None } else { Some(kept) } }
@@ -51,10 +52,11 @@ pub fn is_taken_by<W: Indexed>(changes: &Changes<W>, number: u64, by: u32) -> bo
     }
 }
 
-/// The job of a put that is kept.
+/// The job of a put that is kept and not done.
 pub fn job_at<W: Indexed>(changes: &Changes<W>, number: u64) -> Result<Job, Memory>
     requires held { Holds changes.now number }
     requires put { is_put (slot_at changes.now.slots number).change ≡ true }
+    requires undone { is_done (slot_at changes.now.slots number) ≡ false }
     ensures job { IfOk result (IsJobOf (slot_at changes.now.slots number).change) }
     ensures number { IfOk result (λ job. job.change ≡ number) }
 {
@@ -95,21 +97,22 @@ pub fn note_undone<W: Indexed>(
     }
 }
 
-/// The job of a put.
+/// The job of a put that has its text.
 pub fn job_of(change: u64, stored: &Stored) -> Result<Job, Memory>
-    requires { is_put (change_of stored.now) ≡ true }
+    requires put { is_put (change_of stored.now) ≡ true }
+    requires text { has_text stored.now ≡ true }
     ensures job { IfOk result (IsJobOf (change_of stored.now)) }
     ensures number { IfOk result (λ job. job.change ≡ change) }
 {
     match stored {
-        Stored::Put { lang, text, .. } => {
-            let text = Arc::try_clone(text)?;
-            Ok(Job {
+        Stored::Put { lang, text, .. } => match text.whole() {
+            Some(whole) => Ok(Job {
                 change,
                 lang: *lang,
-                text,
-            })
-        }
+                text: Arc::try_clone(whole)?,
+            }),
+            None => unreachable!(),
+        },
         Stored::Drop { .. } => unreachable!(),
         Stored::Gate { .. } => unreachable!(),
     }

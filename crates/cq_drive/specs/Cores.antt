@@ -1,5 +1,5 @@
 -- The core that a script steps, and the core of the history for which it stands.
-use Rattle.std.specs.Prelude.{◌≡◌, ◌⊎◌, ℕ, List, length, Option}
+use Rattle.std.specs.Prelude.{◌≡◌, ◌⊎◌, ℕ, List, length}
 use Rattle.std.specs.Arc.{arc_value}
 use Rattle.cq_base.specs.declared.settings.Settings.{Settings}
 use Rattle.cq_core.specs.Cores.{CoreState, StandsFor}
@@ -12,7 +12,7 @@ use Rattle.cq_history.specs.Core as history
 use Rattle.cq_io.specs.declared.sink.Sink as sink
 use Rattle.cq_io.specs.declared.source.Source as source
 use Rattle.cq_lines.specs.Held.{Held}
-use Rattle.cq_lines.specs.Serving.{Serves, ServesLines}
+use Rattle.cq_lines.specs.Serving.{ServesLines}
 use Rattle.cq_lines.specs.declared.ending.End.{End}
 use Rattle.cq_drive.specs.Outcomes.{line_of, NeedsMemory}
 use Rattle.cq_drive.specs.declared.outcome.ScriptOutcome.{ScriptOutcome}
@@ -24,7 +24,7 @@ use Rattle.cq_drive.specs.declared.step.ScriptStep.{ScriptStep}
 use Rattle.cq_drive.specs.declared.step.ScriptStep.TheVariants as script
 use Rattle.cq_work.specs.Work.{IsWorkOf}
 use Rattle.cq_work.specs.declared.work.Work.{Work}
-use Rattle.cq_drive.specs.Script.{callers, IsScript, StepComesTo, SaidComesTo, ReadComesTo, ComeTo, ComeFrom}
+use Rattle.cq_drive.specs.Script.{callers, IsScript, StepComesTo, SaidComesTo, ReadComesTo, ComeTo}
 
 -- the bytes are the outcome's line; for one whose line is made in memory they may tell that memory was refused
 abbrev pub IsToldBy : ScriptOutcome → List ℕ → Type 0
@@ -71,14 +71,6 @@ module _ (L : Type 0) (set : Settings) where
   -- these are the bytes of the outcome's line
   abbrev pub LineLed : CoreState → CoreState → List ℕ → List ℕ → Type 0
   LineLed old new line bytes = Led old new (λ k later. (o : ScriptOutcome) × ReadComesTo set k line o later × (bytes ≡ line_of o))
-
-  -- for whichever core it stood, the lines of a source have their outcomes
-  abbrev pub RunServes : CoreState → ℕ → Option (List ℕ) → Option (List ℕ) → Option (List ℕ) → Option (List ℕ) → End → Type 0
-  RunServes old limit rest rest_now before written_now by = (k : history.Core) → Stands k old → Serves line_of (ComeFrom set k) limit rest rest_now before written_now by
-
-  -- the same from a source to a sink
-  abbrev pub HasServed : {S K : Type 0} → CoreState → source.Ghosts S → sink.Ghosts K → Held → S → S → K → K → End → Type 0
-  HasServed old from onto lines read read_now written written_now by = RunServes old lines.limit (from.rest read) (from.rest read_now) (onto.written written) (onto.written written_now) by
 
   -- it stands for a core to which these lines, with these outcomes, have brought the script from that one
   pub record HasComeTo (from : history.Core) (now : CoreState) (lines : List (List ℕ)) (outcomes : List ScriptOutcome) : Type 0 where

@@ -1,17 +1,17 @@
 ghost use Rattle.std.specs.Prelude.{◌≡◌, IfOk, OnErr};
 ghost use Rattle.cq_base.specs.Settings.{IsInRange};
-ghost use Rattle.cq_drive.specs.Cores.{HasServed, IsDriven, Plays};
+ghost use Rattle.cq_drive.specs.Cores.{Plays};
 ghost use Rattle.cq_lines.specs.Runs.{IsFresh};
 ghost use Rattle.cq_lines.specs.Serving.{HasCauseOfEnd};
 
+use crate::Driver;
 use crate::telling::outcome_line;
 use cq_base::{Memory, Steps};
 use cq_core::Core;
 use cq_io::{Failed, Sink, Source, send};
 use cq_lines::{Answers, End, Lines, serve_lines};
 use cq_reply::{Short, fixed};
-use cq_work::{Keyer, Work};
-use std::alloc::Global;
+use cq_work::Work;
 use std::sync::ledger::Ledger;
 use std::thread::Threads;
 
@@ -20,15 +20,13 @@ const CALLERS: u32 = 16;
 
 // What answers the lines of a script, by stepping a core.
 #[derive(Drop)]
-struct Driving<'a, R, L: Ledger> {
-    rt: &'a R,
-    alloc: Global,
-    keyer: &'a Keyer,
+struct Driving<'a, 'd, R, L: Ledger> {
+    driver: &'a Driver<'d, R>,
     core: &'a mut Core<Work<L>>,
     steps: &'a mut Steps<L>,
 }
 
-impl<'a, R: Threads + Sync, L: Ledger> Answers for Driving<'a, R, L> {
+impl<'a, 'd, R: Threads + Sync, L: Ledger> Answers for Driving<'a, 'd, R, L> {
     ghost use Rattle.std.specs.Prelude.{◌≡◌};
     ghost use Rattle.std.specs.Thread.{IsSync};
     ghost use Rattle.cq_base.specs.Settings.{IsInRange};
@@ -44,14 +42,14 @@ impl<'a, R: Threads + Sync, L: Ledger> Answers for Driving<'a, R, L> {
     ghost Beginning = { history.Core };
 
     ghost AreReplies = { λ from first now lines outcomes.
-        HasComeTo L now.keyer.now.settings from now.core.now lines outcomes
-        × (now.keyer.now.settings ≡ first.keyer.now.settings) };
+        HasComeTo L now.driver.now.keyer.now.settings from now.core.now lines outcomes
+        × (now.driver.now.keyer.now.settings ≡ first.driver.now.keyer.now.settings) };
 
-    ghost ready = { λ d. IsSync R.row × IsInRange d.keyer.now.settings
-        × IsDriven L d.keyer.now.settings d.core.now };
+    ghost ready = { λ d. IsSync R.row × IsInRange d.driver.now.keyer.now.settings
+        × IsDriven L d.driver.now.keyer.now.settings d.core.now };
 
     fn answer<K: Sink>(&mut self, line: &[u8], sink: &mut K) -> Result<(), Failed> {
-        let told = outcome_line(self.rt, self.alloc, self.keyer, self.core, line, self.steps);
+        let told = outcome_line(self.driver, self.core, line, self.steps);
         send(sink, told.as_bytes())
     }
 
@@ -60,49 +58,19 @@ impl<'a, R: Threads + Sync, L: Ledger> Answers for Driving<'a, R, L> {
     }
 }
 
-// Steps a core by the lines of a source.
-fn run<R: Threads + Sync, L: Ledger, S: Source, K: Sink>(
-    rt: &R,
-    alloc: Global,
-    keyer: &Keyer,
-    core: &mut Core<Work<L>>,
-    lines: &mut Lines,
-    source: &mut S,
-    sink: &mut K,
-    steps: &mut Steps<L>,
-) -> End
-    requires fresh { IsFresh lines.old }
-    requires in_range { IsInRange keyer.now.settings }
-    requires driven { IsDriven L keyer.now.settings core.old }
-    ensures served { HasServed L keyer.now.settings core.old S.Source K.Sink lines.old
-        source.old source.new sink.old sink.new result }
-    ensures cause { HasCauseOfEnd S.Source K.Sink source.old source.new sink.old sink.new result }
-{
-    let mut driving = Driving {
-        rt,
-        alloc,
-        keyer,
-        core,
-        steps,
-    };
-    serve_lines(&mut driving, lines, source, sink)
-}
-
 /// Steps a core of sixteen callers by the lines of a source, from nothing accepted on. Windows have the keys of `keyer`.
 /// Each whole outcome is handed to the sink before the next line is cut. Memory is answered before the first line alone,
 /// and then nothing was read or written.
 pub fn drive<R: Threads + Sync, L: Ledger, S: Source, K: Sink>(
-    rt: &R,
-    alloc: Global,
-    keyer: &Keyer,
+    driver: &Driver<'_, R>,
     lines: &mut Lines,
     source: &mut S,
     sink: &mut K,
     steps: &mut Steps<L>,
 ) -> Result<End, Memory>
     requires fresh { IsFresh lines.old }
-    requires in_range { IsInRange keyer.now.settings }
-    ensures script { IfOk result (Plays S.Source K.Sink keyer.now.settings lines.old
+    requires in_range { IsInRange driver.now.keyer.now.settings }
+    ensures script { IfOk result (Plays S.Source K.Sink driver.now.keyer.now.settings lines.old
         source.old source.new sink.old sink.new) }
     ensures cause { IfOk result
         (HasCauseOfEnd S.Source K.Sink source.old source.new sink.old sink.new) }
@@ -110,6 +78,11 @@ pub fn drive<R: Threads + Sync, L: Ledger, S: Source, K: Sink>(
     ensures source { OnErr result (source.new ≡ source.old) }
     ensures sink { OnErr result (sink.new ≡ sink.old) }
 {
-    let mut core: Core<Work<L>> = Core::new(alloc, &keyer.settings, CALLERS)?;
-    Ok(run(rt, alloc, keyer, &mut core, lines, source, sink, steps))
+    let mut core: Core<Work<L>> = Core::new(driver.alloc, &driver.keyer.settings, CALLERS)?;
+    let mut driving = Driving {
+        driver,
+        core: &mut core,
+        steps,
+    };
+    Ok(serve_lines(&mut driving, lines, source, sink))
 }

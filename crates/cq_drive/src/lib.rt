@@ -13,6 +13,7 @@
 #![tactic(auto)]
 
 mod buckets;
+mod driver;
 mod driving;
 mod laws;
 mod outcome;
@@ -24,6 +25,7 @@ mod telling;
 mod viewing;
 mod write;
 
+pub use driver::Driver;
 pub use driving::drive;
 pub use laws::the_steps_are_as_worked_out;
 pub use outcome::{Entries, ScriptOutcome};

@@ -7,33 +7,32 @@ ghost use Rattle.cq_drive.specs.Sound.{IsSoundStep};
 
 use crate::stepping::{finished, stepped};
 use crate::viewing::{read, reply};
-use crate::{ScriptOutcome, ScriptStep, line_of, read_step};
+use crate::{Driver, ScriptOutcome, ScriptStep, line_of, read_step};
 use cq_base::{Memory, Steps};
 use cq_core::{Core, Step};
 use cq_reply::{Line, Reply, Short, fixed};
 use cq_request::ReadError;
-use cq_work::{Keyer, Work};
+use cq_work::Work;
 use std::alloc::Global;
 use std::sync::ledger::Ledger;
 use std::thread::Threads;
 
 // The outcome of a step that was read. Where memory is refused, nothing has changed.
 fn outcome_of<R: Threads + Sync, L: Ledger>(
-    rt: &R,
-    alloc: Global,
-    keyer: &Keyer,
+    driver: &Driver<'_, R>,
     core: &mut Core<Work<L>>,
     step: ScriptStep,
     steps: &mut Steps<L>,
 ) -> Result<ScriptOutcome, Memory>
-    requires in_range { IsInRange keyer.now.settings }
-    requires driven { IsDriven L keyer.now.settings core.old }
-    requires sound { IsSoundStep keyer.now.settings step }
-    ensures led { IfOk result (StepLed L keyer.now.settings core.old core.new step) }
+    requires in_range { IsInRange driver.now.keyer.now.settings }
+    requires driven { IsDriven L driver.now.keyer.now.settings core.old }
+    requires sound { IsSoundStep driver.now.keyer.now.settings step }
+    ensures led { IfOk result (StepLed L driver.now.keyer.now.settings core.old core.new step) }
     ensures text { IfOk result IsOutcomeText }
     ensures err { OnErr result (core.new ≡ core.old) }
 {
-    let settings = &keyer.settings;
+    let alloc = driver.alloc;
+    let settings = &driver.keyer.settings;
     match step {
         ScriptStep::Accept { by, change } => {
             stepped(alloc, settings, core, Step::Accept { by, change }, steps)
@@ -43,7 +42,7 @@ fn outcome_of<R: Threads + Sync, L: Ledger>(
         ScriptStep::Back { by, change } => {
             stepped(alloc, settings, core, Step::Back { by, change }, steps)
         }
-        ScriptStep::Done { by, change } => finished(alloc, keyer, core, by, change, steps),
+        ScriptStep::Done { by, change } => finished(alloc, driver.keyer, core, by, change, steps),
         ScriptStep::Apply { shard } => {
             stepped(alloc, settings, core, Step::Apply { shard }, steps)
         }
@@ -52,7 +51,7 @@ fn outcome_of<R: Threads + Sync, L: Ledger>(
         }
         ScriptStep::Open { by } => stepped(alloc, settings, core, Step::Open { by }, steps),
         ScriptStep::Read { by, shard, key } => read(alloc, settings, core, by, shard, key),
-        ScriptStep::Reply { by, query } => reply(rt, alloc, settings, core, by, &query, steps),
+        ScriptStep::Reply { by, query } => reply(driver, core, by, &query, steps),
         ScriptStep::Shut { by } => stepped(alloc, settings, core, Step::Shut { by }, steps),
         ScriptStep::Floor { version } => {
             stepped(alloc, settings, core, Step::Floor { version }, steps)
@@ -65,21 +64,19 @@ fn outcome_of<R: Threads + Sync, L: Ledger>(
 
 // The outcome of a line that is not too long. Where memory is refused, nothing has changed.
 fn said<R: Threads + Sync, L: Ledger>(
-    rt: &R,
-    alloc: Global,
-    keyer: &Keyer,
+    driver: &Driver<'_, R>,
     core: &mut Core<Work<L>>,
     line: &[u8],
     steps: &mut Steps<L>,
 ) -> Result<ScriptOutcome, Memory>
-    requires in_range { IsInRange keyer.now.settings }
-    requires driven { IsDriven L keyer.now.settings core.old }
-    ensures led { IfOk result (SaidLed L keyer.now.settings core.old core.new line.now) }
+    requires in_range { IsInRange driver.now.keyer.now.settings }
+    requires driven { IsDriven L driver.now.keyer.now.settings core.old }
+    ensures led { IfOk result (SaidLed L driver.now.keyer.now.settings core.old core.new line.now) }
     ensures text { IfOk result IsOutcomeText }
     ensures err { OnErr result (core.new ≡ core.old) }
 {
-    match read_step(alloc, &keyer.settings, line) {
-        Ok(step) => outcome_of(rt, alloc, keyer, core, step, steps),
+    match read_step(driver.alloc, &driver.keyer.settings, line) {
+        Ok(step) => outcome_of(driver, core, step, steps),
         Err(ReadError::Refused(refusal)) => Ok(ScriptOutcome::Reply(Reply::Refused(refusal))),
         Err(ReadError::Memory) => Err(Memory),
     }
@@ -98,19 +95,17 @@ fn line_or_memory(alloc: Global, told: &ScriptOutcome) -> Line
 
 /// The line of the outcome of a line that is not too long.
 pub(crate) fn outcome_line<R: Threads + Sync, L: Ledger>(
-    rt: &R,
-    alloc: Global,
-    keyer: &Keyer,
+    driver: &Driver<'_, R>,
     core: &mut Core<Work<L>>,
     line: &[u8],
     steps: &mut Steps<L>,
 ) -> Line
-    requires in_range { IsInRange keyer.now.settings }
-    requires driven { IsDriven L keyer.now.settings core.old }
-    ensures { LineLed L keyer.now.settings core.old core.new line.now (bytes_of result) }
+    requires in_range { IsInRange driver.now.keyer.now.settings }
+    requires driven { IsDriven L driver.now.keyer.now.settings core.old }
+    ensures { LineLed L driver.now.keyer.now.settings core.old core.new line.now (bytes_of result) }
 {
-    match said(rt, alloc, keyer, core, line, steps) {
-        Ok(outcome) => line_or_memory(alloc, &outcome),
+    match said(driver, core, line, steps) {
+        Ok(outcome) => line_or_memory(driver.alloc, &outcome),
         Err(Memory) => Line::Short(fixed(Short::Memory)),
     }
 }

@@ -12,8 +12,8 @@ ghost use Rattle.cq_drive.specs.declared.step.ScriptStep.TheVariants as script;
 ghost use Rattle.cq_work.specs.Work.{IsWorkOf};
 
 use crate::buckets::CoreBuckets;
-use crate::{Entries, ScriptOutcome};
-use cq_answer::answer;
+use crate::{Driver, Entries, ScriptOutcome};
+use cq_answer::{ProjectAt, answer};
 use cq_base::{Memory, Settings, Steps};
 use cq_board::View;
 use cq_core::Core;
@@ -46,71 +46,65 @@ pub(crate) fn read<L: Ledger>(
 
 // The reply to a query at the version of a view, which the caller has open.
 fn answered<R: Threads + Sync, L: Ledger>(
-    rt: &R,
-    alloc: Global,
-    settings: &Settings,
+    driver: &Driver<'_, R>,
     core: &Core<Work<L>>,
     by: u32,
     view: &View<Work<L>>,
     query: &Query,
     steps: &mut Steps<L>,
 ) -> Result<ScriptOutcome, Memory>
-    requires in_range { IsInRange settings.now }
-    requires driven { IsDriven L settings.now core.now }
+    requires in_range { IsInRange driver.now.keyer.now.settings }
+    requires driven { IsDriven L driver.now.keyer.now.settings core.now }
     requires caller { by < callers }
-    requires long { settings.now.chunk ≤ query.now.min }
+    requires long { driver.now.keyer.now.settings.chunk ≤ query.now.min }
     requires path { HasPath query.now.kind query.now.path }
     requires scope { HasScope query.now.path query.now.scope }
     requires opened { view_of core.now.board.state by ≡ Some view.now.version }
     requires listing { IsView (IsWorkOf core.now.board.settings) core.now.board.state view.now }
     requires few { HaveFewConditions (arc_value view.now.listing).projects }
-    ensures led { IfOk result (StepTold L settings.now core.now (script.Reply by query.now)) }
+    ensures led { IfOk result
+        (StepTold L driver.now.keyer.now.settings core.now (script.Reply by query.now)) }
     ensures text { IfOk result IsOutcomeText }
 {
     let files = view.listing.project(&query.project);
     let conditions = view.listing.conditions(&query.project);
     let mut buckets = CoreBuckets {
         core,
-        settings,
+        settings: &driver.keyer.settings,
         by,
         files,
         asked: 0,
     };
-    let reply = answer(
-        rt,
-        alloc,
-        settings,
+    let at = ProjectAt {
+        settings: &driver.keyer.settings,
         files,
         conditions,
-        query,
-        view.version,
-        &mut buckets,
-        steps,
-    )?;
+        version: view.version,
+    };
+    let reply = answer(driver.rt, driver.alloc, &at, query, &mut buckets, steps)?;
     Ok(ScriptOutcome::Reply(reply))
 }
 
 /// The reply to a query at the version of the caller's view.
 pub(crate) fn reply<R: Threads + Sync, L: Ledger>(
-    rt: &R,
-    alloc: Global,
-    settings: &Settings,
+    driver: &Driver<'_, R>,
     core: &Core<Work<L>>,
     by: u32,
     query: &Query,
     steps: &mut Steps<L>,
 ) -> Result<ScriptOutcome, Memory>
-    requires in_range { IsInRange settings.now }
-    requires driven { IsDriven L settings.now core.now }
+    requires in_range { IsInRange driver.now.keyer.now.settings }
+    requires driven { IsDriven L driver.now.keyer.now.settings core.now }
     requires caller { by < callers }
-    requires long { settings.now.chunk ≤ query.now.min }
+    requires long { driver.now.keyer.now.settings.chunk ≤ query.now.min }
     requires path { HasPath query.now.kind query.now.path }
     requires scope { HasScope query.now.path query.now.scope }
-    ensures led { IfOk result (StepTold L settings.now core.now (script.Reply by query.now)) }
+    ensures led { IfOk result
+        (StepTold L driver.now.keyer.now.settings core.now (script.Reply by query.now)) }
     ensures text { IfOk result IsOutcomeText }
 {
     match core.view(by) {
-        Some(view) => answered(rt, alloc, settings, core, by, view, query, steps),
+        Some(view) => answered(driver, core, by, view, query, steps),
         None => Ok(ScriptOutcome::No),
     }
 }

@@ -2,7 +2,7 @@ ghost use Rattle.std.specs.Prelude.{◌≡◌};
 ghost use Rattle.cq_base.specs.Settings.{IsInRange};
 
 use cq_base::{Memory, Settings, Steps};
-use cq_drive::drive;
+use cq_drive::{Driver, drive};
 use cq_io::{MemSink, MemSource};
 use cq_lines::{End, Lines};
 use cq_work::Keyer;
@@ -29,15 +29,12 @@ fn written<R: Threads + Sync, L: Ledger>(
     let mut source = MemSource::new(bytes, 4_099, Vec::new(alloc));
     let mut sink = MemSink::new(alloc, 1_048_576, 89, Vec::new(alloc))?;
     let mut steps: Steps<L> = Steps::new(blank);
-    let end = drive(
+    let driver = Driver {
         rt,
         alloc,
-        &keyer,
-        &mut lines,
-        &mut source,
-        &mut sink,
-        &mut steps,
-    )?;
+        keyer: &keyer,
+    };
+    let end = drive(&driver, &mut lines, &mut source, &mut sink, &mut steps)?;
     Ok((end, Vec::from_slice(alloc, sink.written())?))
 }
 

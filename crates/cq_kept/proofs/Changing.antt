@@ -33,7 +33,9 @@ use Rattle.cq_kept.specs.declared.kept.Kept.{Kept}
 use Rattle.cq_kept.specs.declared.presence.Presence.{Presence}
 use Rattle.cq_kept.specs.Accepted.{accepted_from, text_in, IsHeldAs, HoldsKept, IsHeld, MayAccept}
 use Rattle.cq_kept.specs.Presence.{IsPresence, AddsPlace}
-use Rattle.cq_kept.specs.Slots.{slot_from, slot_at, change_of, changes_of, state_from, IsWorked}
+use Rattle.cq_kept.specs.declared.kept.Stored.{Stored}
+use Rattle.cq_kept.specs.declared.kept.Stored.TheVariants as stored
+use Rattle.cq_kept.specs.Slots.{slot_from, slot_at, change_of, given_up, changes_of, state_from, IsWorked}
 
 -- ---- entries in the order of their numbers
 
@@ -121,6 +123,12 @@ module _ {X : Type 0} where
           (λ (same : x ≡ e). others e (subst (Contains (x ∷ es)) same (Contains-here x es)) (ap (λ (y : ℕ × X). nat_eq number y.0) (sym same) ∙ is))
           rest
           (Contains-cases x e (set_value (is_at (nat_cmp number)) es w) (subst (λ (b : Bool). Contains (cond b ((x.0, w) ∷ es) (x ∷ set_value (is_at (nat_cmp number)) es w)) e) is has))
+
+-- a change without its text is the same change
+pub change_given_up : (c : Stored) → change_of (given_up c) ≡ change_of c
+change_given_up (stored.Put file lang text) = refl
+change_given_up (stored.Drop file) = refl
+change_given_up (stored.Gate key conditions) = refl
 
 -- ---- tests
 

@@ -19,7 +19,7 @@ use Rattle.cq_kept.specs.declared.kept.Stored.{Stored}
 use Rattle.cq_kept.specs.declared.over.Over.{Over}
 use Rattle.cq_kept.specs.declared.presence.Presence.{Presence}
 use Rattle.cq_kept.specs.Presence.{IsPresence}
-use Rattle.cq_kept.specs.Slots.{slot_from, slot_at, change_of, changes_of, state_from, with_change, IsWorked}
+use Rattle.cq_kept.specs.Slots.{slot_from, slot_at, change_of, given_up, changes_of, state_from, with_change, IsWorked}
 
 -- the settings, the slots of all accepted changes, and the floor
 pub record Accepted : Type 0 where
@@ -96,9 +96,9 @@ module _ {W : Type 0} where
   abbrev pub IsHeldBy : ℕ → Option ℕ → BTreeMap ℕ (Kept W) → BTreeMap ℕ (Kept W) → Type 0
   IsHeldBy number holder old new = (was : Kept W) → get nat_cmp old number ≡ Some was → new.entries ≡ set_value (is_at (nat_cmp number)) old.entries (record { change = was.change; work = was.work; holder = holder })
 
-  -- it has this work, if it was held
+  -- it has this work in place of its text, if it was held
   abbrev pub IsWorkedAs : ℕ → Arc W Global → BTreeMap ℕ (Kept W) → BTreeMap ℕ (Kept W) → Type 0
-  IsWorkedAs number work old new = (was : Kept W) → get nat_cmp old number ≡ Some was → new.entries ≡ set_value (is_at (nat_cmp number)) old.entries (record { change = was.change; work = Some work; holder = was.holder })
+  IsWorkedAs number work old new = (was : Kept W) → get nat_cmp old number ≡ Some was → new.entries ≡ set_value (is_at (nat_cmp number)) old.entries (record { change = given_up was.change; work = Some work; holder = was.holder })
 
   -- nothing is there that was not there before
   abbrev pub IsPartOf : BTreeMap ℕ (Kept W) → BTreeMap ℕ (Kept W) → Type 0

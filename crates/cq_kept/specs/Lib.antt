@@ -1,3 +1,4 @@
+pub mod Texts
 pub mod Accepted
 pub mod Over
 pub mod Presence

@@ -1,27 +1,41 @@
 -- The slot that is kept of a change, and the slots of all changes.
-use Rattle.std.specs.Prelude.{◌≡◌, ℕ, ◌-◌, true, List, [], ◌∷◌, ◌++◌, map, is_some, Option, IfSome, slice_index_or, slice_set}
+use Rattle.std.specs.Prelude.{◌≡◌, ℕ, ◌-◌, Bool, true, false, List, [], ◌∷◌, ◌++◌, map, is_some, Option, MatchOption, slice_index_or, slice_set}
 use Rattle.std.specs.Arc.{arc_value}
 use Rattle.cq_base.specs.declared.change.Change.{Change}
 use Rattle.cq_base.specs.declared.change.Change.TheVariants as change
 use Rattle.cq_base.specs.declared.lang.Lang.{Lang}
 use Rattle.cq_history.specs.Changes.{IsWorkFor}
 use Rattle.cq_history.specs.State.{State, Slot, new_slot, no_slot}
+use Rattle.cq_kept.specs.Texts.{given}
 use Rattle.cq_kept.specs.declared.kept.Stored.{Stored}
 use Rattle.cq_kept.specs.declared.kept.Stored.TheVariants.{Put, Drop, Gate}
 use Rattle.cq_kept.specs.declared.kept.Kept.{Kept}
 
 -- the change as it is accepted
 abbrev pub change_of : Stored → Change
-change_of (Put file lang text) = change.Put (arc_value file.project) (arc_value file.path) lang (arc_value text)
+change_of (Put file lang text) = change.Put (arc_value file.project) (arc_value file.path) lang text.text
 change_of (Drop file) = change.Drop (arc_value file.project) (arc_value file.path)
 change_of (Gate key conditions) = change.Gate (arc_value key.project) (arc_value conditions)
+
+-- a text of it is still there
+abbrev pub has_text : Stored → Bool
+has_text (Put file lang text) = text.is_there
+has_text (Drop file) = true
+has_text (Gate key conditions) = true
+
+-- the same change, without its text
+abbrev pub given_up : Stored → Stored
+given_up (Put file lang text) = Put file lang (given text.text false)
+given_up (Drop file) = Drop file
+given_up (Gate key conditions) = Gate key conditions
 
 module _ {W : Type 0} where
   abbrev pub slot_from : Kept W → Slot
   slot_from k = record { change = change_of k.change; finished = is_some k.work; holder = k.holder }
 
+  -- its work is that of its change, which has its text until there is one
   abbrev pub IsWorked : (Lang → List ℕ → W → Type 0) → Kept W → Type 0
-  IsWorked IsWork k = IfSome k.work (λ work. IsWorkFor IsWork (change_of k.change) (arc_value work))
+  IsWorked IsWork k = MatchOption k.work (has_text k.change ≡ true) (λ work. IsWorkFor IsWork (change_of k.change) (arc_value work))
 
 abbrev pub changes_of : List Slot → List Change
 changes_of slots = map (λ (slot : Slot). slot.change) slots

@@ -1,8 +1,9 @@
-ghost use Rattle.std.specs.Prelude.{◌≡◌, IfOk};
+ghost use Rattle.std.specs.Prelude.{◌≡◌, true, IfOk};
 ghost use Rattle.cq_history.specs.Changes.{text_len};
-ghost use Rattle.cq_kept.specs.Slots.{change_of};
+ghost use Rattle.cq_kept.specs.Slots.{change_of, has_text};
 
 use crate::kept::{FileKey, ProjectKey, Stored};
+use crate::put_text::PutText;
 use cq_base::{Change, Memory};
 use std::alloc::Global;
 use std::sync::Arc;
@@ -12,7 +13,7 @@ pub fn text_len(change: &Stored) -> u64
     ensures { result ≡ text_len (change_of change.now) }
 {
     match change {
-        Stored::Put { text, .. } => text.as_bytes().len() as u64,
+        Stored::Put { text, .. } => text.len(),
         Stored::Drop { .. } => 0,
         Stored::Gate { .. } => 0,
     }
@@ -20,7 +21,8 @@ pub fn text_len(change: &Stored) -> u64
 
 /// The change as it is kept.
 pub fn stored(alloc: Global, change: Change) -> Result<Stored, Memory>
-    ensures { IfOk result (λ kept. change_of kept ≡ change) }
+    ensures change { IfOk result (λ kept. change_of kept ≡ change) }
+    ensures text { IfOk result (λ kept. has_text kept ≡ true) }
 {
     match change {
         Change::Put {
@@ -31,7 +33,7 @@ pub fn stored(alloc: Global, change: Change) -> Result<Stored, Memory>
         } => {
             let project = Arc::new(alloc, project)?;
             let path = Arc::new(alloc, path)?;
-            let text = Arc::new(alloc, text)?;
+            let text = PutText::new(alloc, text)?;
             Ok(Stored::Put {
                 file: FileKey { project, path },
                 lang,

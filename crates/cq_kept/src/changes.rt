@@ -1,10 +1,10 @@
-ghost use Rattle.std.specs.Prelude.{◌≡◌, ◌↔◌, ◌≤◌, ◌^◌, ◌||◌, nat_le, nat_lt, [], length, IfOk, OnOk, OnErr, IfSome, IsSome, IsNone, None};
+ghost use Rattle.std.specs.Prelude.{◌≡◌, ◌↔◌, ◌≤◌, ◌^◌, ◌||◌, nat_le, nat_lt, [], length, true, IfOk, OnOk, OnErr, IfSome, IsSome, IsNone, None};
 ghost use Rattle.std.specs.BTreeMap.{get};
 ghost use Rattle.std.specs.Ordering.{nat_cmp};
 ghost use Rattle.cq_history.specs.Changes.{text_len};
 ghost use Rattle.cq_history.specs.Lawful.{is_absent, is_full, is_long};
 ghost use Rattle.cq_kept.specs.Accepted.{accepted_from, with_slots, with_accepted, bare_state, Holds, HoldsNoneBehind, HoldsPuts, MayAccept, IsNextHeld, IsItsWork, IsInserted, IsHeldBy, IsWorkedAs};
-ghost use Rattle.cq_kept.specs.Slots.{slot_from, slot_at, change_of, with_holder, with_work, NotesPut, IsWorked};
+ghost use Rattle.cq_kept.specs.Slots.{slot_from, slot_at, change_of, has_text, with_holder, with_work, NotesPut, IsWorked};
 
 use crate::accepting::text_len;
 use crate::forgetting::forget;
@@ -148,7 +148,8 @@ impl<W: Indexed> Changes<W> {
     /// One change more, which nothing is against. If memory is refused all is as before. The memory that `hold`, `finish`
     /// and `set_floor` need for it is taken here.
     pub fn accept(&mut self, change: Stored) -> Result<(), Memory>
-        requires { MayAccept self.old (change_of change) }
+        requires allowed { MayAccept self.old (change_of change) }
+        requires text { has_text change ≡ true }
         ensures more { OnOk result (self.new ≡ with_accepted self.old (change_of change)) }
         ensures err { OnErr result (self.new ≡ self.old) }
     {
@@ -177,7 +178,7 @@ impl<W: Indexed> Changes<W> {
         self.past = self.past.held(number, holder);
     }
 
-    /// The change of a number has its work. It takes no memory.
+    /// The change of a number has its work, and its text is given up. It takes no memory.
     pub fn finish(&mut self, number: u64, work: Arc<W, Global>)
         requires held { Holds self.old number }
         requires work { IsItsWork W.IsWorkOf self.old number work }
@@ -257,12 +258,15 @@ fn set_holder<W>(kept: &mut BTreeMap<u64, Kept<W>>, number: u64, holder: Option<
     }
 }
 
-// The work of the change of a number.
+// The work of the change of a number, in place of its text.
 fn set_work<W: Drop>(kept: &mut BTreeMap<u64, Kept<W>>, number: u64, work: Arc<W, Global>)
     ensures { IsWorkedAs number work kept.old kept.new }
 {
     match kept.get_mut(&number) {
-        Some(found) => found.work = Some(work),
+        Some(found) => {
+            found.change.give_up_text();
+            found.work = Some(work);
+        }
         None => {}
     }
 }

@@ -1,7 +1,8 @@
 ghost use Rattle.std.specs.Prelude.{◌≡◌, IfOk};
 ghost use Rattle.std.specs.Arc.{arc_value};
-ghost use Rattle.cq_kept.specs.Slots.{change_of};
+ghost use Rattle.cq_kept.specs.Slots.{change_of, given_up, has_text};
 
+use crate::put_text::PutText;
 use cq_base::{Conditions, Lang, Memory, Text};
 use std::alloc::Global;
 use std::sync::Arc;
@@ -47,7 +48,7 @@ pub enum Stored {
     Put {
         file: FileKey,
         lang: Lang,
-        text: Arc<Text, Global>,
+        text: PutText,
     },
     Drop {
         file: FileKey,
@@ -61,12 +62,13 @@ pub enum Stored {
 impl Stored {
     /// The same change, whose texts are shared.
     pub fn shared(&self) -> Result<Stored, Memory>
-        ensures { IfOk result (λ same. change_of same ≡ change_of self.now) }
+        ensures change { IfOk result (λ same. change_of same ≡ change_of self.now) }
+        ensures text { IfOk result (λ same. has_text same ≡ has_text self.now) }
     {
         match self {
             Stored::Put { file, lang, text } => {
                 let file = file.shared()?;
-                let text = Arc::try_clone(text)?;
+                let text = text.shared()?;
                 Ok(Stored::Put {
                     file,
                     lang: *lang,
@@ -84,9 +86,20 @@ impl Stored {
             }
         }
     }
+
+    /// Gives its text up, if it is a put.
+    pub(crate) fn give_up_text(&mut self)
+        ensures { self.new ≡ given_up self.old }
+    {
+        match self {
+            Stored::Put { text, .. } => text.give_up(),
+            Stored::Drop { .. } => {}
+            Stored::Gate { .. } => {}
+        }
+    }
 }
 
-/// An accepted change, its work once it was made, and who took it and did not give it back.
+/// An accepted change, its work once it was made, and who took it and did not give it back. A put has its text until then.
 #[derive(Drop)]
 pub struct Kept<W> {
     pub change: Stored,

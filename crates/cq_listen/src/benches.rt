@@ -87,13 +87,14 @@ fn work_at<Q: Wait, L: Ledger, R: Wait, P: Keeper<Work<L>, Shared<Work<L>, R>>, 
         ..
     } = bench;
     let server = Server {
+        rt,
         alloc,
         keyer,
         hub,
         keeper,
         gate,
     };
-    let _pass = work(rt, &server, pass, bell);
+    let _pass = work(&server, pass, bell);
 }
 
 impl<'a, L: Ledger, R: Wait, P: Keeper<Work<L>, Shared<Work<L>, R>>, G: Gate> Worker

@@ -10,6 +10,7 @@
 mod benches;
 mod connection;
 mod doorway;
+mod floor;
 mod listening;
 mod passes;
 mod queue;
@@ -17,5 +18,6 @@ mod seats;
 mod sessions;
 mod workers;
 
+pub use floor::Floor;
 pub use listening::{Passes, Served, serve, serve_over};
 pub use passes::passes_of;

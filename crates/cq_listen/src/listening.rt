@@ -7,12 +7,13 @@ ghost use Rattle.cq_listen.specs.Seats.{IsIdle};
 use crate::benches::benches_of;
 use crate::connection::Connection;
 use crate::doorway::Doorway;
+use crate::floor::Floor;
 use crate::passes::passes_of;
 use crate::queue::Queue;
 use crate::seats::{Seat, seats_of};
 use crate::sessions::Attendant;
-use crate::workers::{Worker, serve_beside_workers};
-use cq_base::{Counters, Memory, Settings};
+use crate::workers::{Staff, Worker, serve_beside_workers};
+use cq_base::{Memory, Settings};
 use cq_chain::Pass;
 use cq_io::{Doors, Gate, Sink, Source};
 use cq_serve::{Bell, RingingGate};
@@ -20,7 +21,6 @@ use cq_session::{Keeper, NoLog};
 use cq_shard::Indexed;
 use cq_shared::Shared;
 use cq_work::{Keyer, Work};
-use std::alloc::Global;
 use std::sync::Wait;
 use std::sync::ledger::Ledger;
 use std::thread::Threads;
@@ -71,31 +71,26 @@ fn serve_doors<
 >(
     rt: &Q,
     keyer: &Keyer,
-    workers: Vec<M>,
-    bell: &Bell,
-    attendants: Vec<N>,
-    own: N,
+    staff: Staff<'_, M, N>,
     queue: Queue<Connection<S, K>>,
     doors: &mut D,
 ) -> Served
-    requires workers { All (λ m. M.settings m ≡ keyer.now.settings) workers.items }
-    requires attendants { All (λ n. N.settings n ≡ keyer.now.settings) attendants.items }
-    requires own { N.settings own ≡ keyer.now.settings }
+    requires workers { All (λ m. M.settings m ≡ keyer.now.settings) staff.workers.items }
+    requires attendants { All (λ n. N.settings n ≡ keyer.now.settings) staff.attendants.items }
+    requires own { N.settings staff.own ≡ keyer.now.settings }
     requires bound { IsSome (D.bound doors.old) }
     ensures ended { HasEnded (D.faults doors.old) (D.faults doors.new)
         (D.left doors.old) (D.left doors.new) result.failed }
-    ensures made { IsServedWith keyer.now.settings (vec_len workers) (vec_len attendants) result }
+    ensures made { IsServedWith keyer.now.settings
+        (vec_len staff.workers) (vec_len staff.attendants) result }
     ensures bound { D.bound doors.new ≡ D.bound doors.old }
 {
-    let workers_made = workers.len();
-    let sessions_made = attendants.len();
+    let workers_made = staff.workers.len();
+    let sessions_made = staff.attendants.len();
     let (doorway, own) = serve_beside_workers(
         rt,
         keyer,
-        workers,
-        bell,
-        attendants,
-        own,
+        staff,
         &queue,
         Doorway {
             doors,
@@ -147,27 +142,22 @@ pub fn serve_over<
     G: Gate + Sync,
 >(
     rt: &Q,
-    alloc: Global,
-    settings: &Settings,
-    counters: &Counters<L>,
-    hub: &Shared<Work<L>, R>,
-    keeper: &P,
+    floor: &Floor<'_, L, R, P, G>,
     passes: Passes<Work<L>>,
     doors: &mut D,
-    gate: &G,
 ) -> Result<Served, Memory>
-    requires in_range { IsInRange settings.now }
-    requires settings { settings_of hub.now ≡ settings.now }
-    requires keeps { P.Keeps keeper.now hub.now }
-    requires workers { All (IsIdle hub.now) passes.workers.items }
-    requires sessions { All (IsIdle hub.now) passes.sessions.items }
-    requires own { IsIdle hub.now passes.own }
+    requires in_range { IsInRange floor.now.settings.now }
+    requires settings { settings_of floor.now.hub.now ≡ floor.now.settings.now }
+    requires keeps { P.Keeps floor.now.keeper.now floor.now.hub.now }
+    requires workers { All (IsIdle floor.now.hub.now) passes.workers.items }
+    requires sessions { All (IsIdle floor.now.hub.now) passes.sessions.items }
+    requires own { IsIdle floor.now.hub.now passes.own }
     requires few { vec_len passes.sessions ≤ 64 }
     requires bound { IsSome (D.bound doors.old) }
     ensures ended { IfOk result (λ served. HasEnded (D.faults doors.old) (D.faults doors.new)
         (D.left doors.old) (D.left doors.new) served.failed) }
-    ensures made { IfOk result
-        (IsServedWith settings.now (vec_len passes.workers) (vec_len passes.sessions)) }
+    ensures made { IfOk result (IsServedWith floor.now.settings.now
+        (vec_len passes.workers) (vec_len passes.sessions)) }
     ensures refused { OnErr result (doors.new ≡ doors.old) }
     ensures bound { D.bound doors.new ≡ D.bound doors.old }
 {
@@ -179,16 +169,37 @@ pub fn serve_over<
     let places = sessions.len() as u32;
     let bell = Bell::new();
     let ringing = RingingGate {
-        gate,
+        gate: floor.gate,
         bell: &bell,
         rt,
     };
-    let benches = benches_of(alloc, settings, hub, keeper, gate, workers)?;
-    let seats = seats_of(alloc, settings, counters, hub, keeper, &ringing, sessions)?;
-    let own = Seat::new(alloc, settings, counters, hub, keeper, &ringing, own)?;
-    let queue: Queue<Connection<S, K>> = Queue::new(alloc, places)?;
-    let keyer = Keyer::plain(settings);
-    Ok(serve_doors(rt, &keyer, benches, &bell, seats, own, queue, doors))
+    let benches = benches_of(
+        floor.alloc,
+        floor.settings,
+        floor.hub,
+        floor.keeper,
+        floor.gate,
+        workers,
+    )?;
+    let seating = Floor {
+        alloc: floor.alloc,
+        settings: floor.settings,
+        counters: floor.counters,
+        hub: floor.hub,
+        keeper: floor.keeper,
+        gate: &ringing,
+    };
+    let seats = seats_of(&seating, sessions)?;
+    let own = Seat::new(&seating, own)?;
+    let queue: Queue<Connection<S, K>> = Queue::new(floor.alloc, places)?;
+    let keyer = Keyer::plain(floor.settings);
+    let staff = Staff {
+        workers: benches,
+        bell: &bell,
+        attendants: seats,
+        own,
+    };
+    Ok(serve_doors(rt, &keyer, staff, queue, doors))
 }
 
 /// Serves the connections that the doors give, as `serve_over` does, and keeps no line: each session accepts its changes
@@ -204,38 +215,32 @@ pub fn serve<
     G: Gate + Sync,
 >(
     rt: &Q,
-    alloc: Global,
-    settings: &Settings,
-    counters: &Counters<L>,
-    hub: &Shared<Work<L>, R>,
+    floor: &Floor<'_, L, R, NoLog, G>,
     pass: Pass<Work<L>>,
     doors: &mut D,
-    gate: &G,
     workers: u32,
     sessions: u32,
 ) -> Result<Served, Memory>
-    requires in_range { IsInRange settings.now }
-    requires settings { settings_of hub.now ≡ settings.now }
-    requires idle { IsIdle hub.now pass }
+    requires in_range { IsInRange floor.now.settings.now }
+    requires settings { settings_of floor.now.hub.now ≡ floor.now.settings.now }
+    requires idle { IsIdle floor.now.hub.now pass }
     requires room { workers + sessions ≤ pass.room }
     requires bound { IsSome (D.bound doors.old) }
     requires sessions { sessions ≤ 64 }
     requires workers { workers ≤ 64 }
     ensures ended { IfOk result (λ served. HasEnded (D.faults doors.old) (D.faults doors.new)
         (D.left doors.old) (D.left doors.new) served.failed) }
-    ensures made { IfOk result (IsServedWith settings.now workers sessions) }
+    ensures made { IfOk result (IsServedWith floor.now.settings.now workers sessions) }
     ensures refused { OnErr result (doors.new ≡ doors.old) }
     ensures bound { D.bound doors.new ≡ D.bound doors.old }
 {
     let mut pass = pass;
-    let workers = passes_of(alloc, hub, &mut pass, workers)?;
-    let sessions = passes_of(alloc, hub, &mut pass, sessions)?;
+    let workers = passes_of(floor.alloc, floor.hub, &mut pass, workers)?;
+    let sessions = passes_of(floor.alloc, floor.hub, &mut pass, sessions)?;
     let passes = Passes {
         workers,
         sessions,
         own: pass,
     };
-    serve_over(
-        rt, alloc, settings, counters, hub, &NoLog, passes, doors, gate,
-    )
+    serve_over(rt, floor, passes, doors)
 }

@@ -4,6 +4,7 @@ ghost use Rattle.cq_shared.specs.SharedPasses.{settings_of};
 ghost use Rattle.cq_listen.specs.Seats.{IsIdle};
 
 use crate::connection::Connection;
+use crate::floor::Floor;
 use crate::sessions::Attendant;
 use cq_base::{Counters, Memory, Settings};
 use cq_chain::Pass;
@@ -52,29 +53,21 @@ impl<'a, L: Ledger, R: Wait, P: Keeper<Work<L>, Shared<Work<L>, R>>, G> Seat<'a,
     ghost use Rattle.cq_listen.specs.Seats.{IsIdle};
 
     /// The seat of a pass that has no view open. It takes memory for its cutter.
-    pub(crate) fn new(
-        alloc: Global,
-        settings: &'a Settings,
-        counters: &'a Counters<L>,
-        hub: &'a Shared<Work<L>, R>,
-        keeper: &'a P,
-        gate: &'a G,
-        pass: Pass<Work<L>>,
-    ) -> Result<Self, Memory>
-        requires in_range { IsInRange settings.now }
-        requires settings { settings_of hub.now ≡ settings.now }
-        requires keeps { P.Keeps keeper.now hub.now }
-        requires idle { IsIdle hub.now pass }
-        ensures { IfOk result (λ seat. seat ≡ settings.now) }
+    pub(crate) fn new(floor: &Floor<'a, L, R, P, G>, pass: Pass<Work<L>>) -> Result<Self, Memory>
+        requires in_range { IsInRange floor.now.settings.now }
+        requires settings { settings_of floor.now.hub.now ≡ floor.now.settings.now }
+        requires keeps { P.Keeps floor.now.keeper.now floor.now.hub.now }
+        requires idle { IsIdle floor.now.hub.now pass }
+        ensures { IfOk result (λ seat. seat ≡ floor.now.settings.now) }
     {
-        let lines = Lines::new(alloc, settings.byte_limit)?;
+        let lines = Lines::new(floor.alloc, floor.settings.byte_limit)?;
         Ok(Seat {
-            alloc,
-            settings,
-            counters,
-            hub,
-            keeper,
-            gate,
+            alloc: floor.alloc,
+            settings: floor.settings,
+            counters: floor.counters,
+            hub: floor.hub,
+            keeper: floor.keeper,
+            gate: floor.gate,
             lines,
             pass,
         })
@@ -100,6 +93,7 @@ fn converse<
     let mut steps = seat.counters.counter();
     seat.lines.restart();
     let server = Server {
+        rt,
         alloc: seat.alloc,
         keyer,
         hub: seat.hub,
@@ -107,7 +101,6 @@ fn converse<
         gate: seat.gate,
     };
     let _over = kept_session(
-        rt,
         &server,
         &mut seat.pass,
         &mut seat.lines,
@@ -135,24 +128,19 @@ impl<
 
 /// A seat for each of these passes.
 pub(crate) fn seats_of<'a, L: Ledger, R: Wait, P: Keeper<Work<L>, Shared<Work<L>, R>>, G>(
-    alloc: Global,
-    settings: &'a Settings,
-    counters: &'a Counters<L>,
-    hub: &'a Shared<Work<L>, R>,
-    keeper: &'a P,
-    gate: &'a G,
+    floor: &Floor<'a, L, R, P, G>,
     passes: Vec<Pass<Work<L>>>,
 ) -> Result<Vec<Seat<'a, L, R, P, G>>, Memory>
-    requires in_range { IsInRange settings.now }
-    requires settings { settings_of hub.now ≡ settings.now }
-    requires keeps { P.Keeps keeper.now hub.now }
-    requires idle { All (IsIdle hub.now) passes.items }
+    requires in_range { IsInRange floor.now.settings.now }
+    requires settings { settings_of floor.now.hub.now ≡ floor.now.settings.now }
+    requires keeps { P.Keeps floor.now.keeper.now floor.now.hub.now }
+    requires idle { All (IsIdle floor.now.hub.now) passes.items }
     ensures number { IfOk result (λ seats. vec_len seats ≡ vec_len passes) }
-    ensures settings { IfOk result (λ seats. All (λ seat. seat ≡ settings.now) seats.items) }
+    ensures settings { IfOk result (λ seats. All (λ seat. seat ≡ floor.now.settings.now) seats.items) }
 {
-    let mut seats = Vec::with_capacity(alloc, passes.len())?;
+    let mut seats = Vec::with_capacity(floor.alloc, passes.len())?;
     'seats: for own in passes {
-        seats.push(Seat::new(alloc, settings, counters, hub, keeper, gate, own)?)?;
+        seats.push(Seat::new(floor, own)?)?;
     }
     Ok(seats)
 }

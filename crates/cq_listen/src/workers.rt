@@ -42,7 +42,17 @@ fn start_workers<'s, E: 's, Q: Wait + Sync, M: Worker + Send + Drop + 's>(
     }
 }
 
-/// Serves what comes, as `serve_arrivals` does, beside a thread for each worker, while one can be made. Behind the last session
+/// Who serves connections: workers, who work until the bell's end, an attendant for each thread of the sessions, and one for
+/// the calling thread.
+#[derive(Drop)]
+pub(crate) struct Staff<'a, M, N> {
+    pub(crate) workers: Vec<M>,
+    pub(crate) bell: &'a Bell,
+    pub(crate) attendants: Vec<N>,
+    pub(crate) own: N,
+}
+
+/// Serves what comes, as `serve_arrivals` does, beside a thread for each worker, while one can be made. After the last session
 /// the bell has its end, and no thread is left.
 pub(crate) fn serve_beside_workers<
     Q: Threads + Wait + Sync,
@@ -50,23 +60,20 @@ pub(crate) fn serve_beside_workers<
     M: Worker + Send + Drop,
     N: Attendant<C> + Send + Drop,
     A: Arrivals<C> + Drop,
->(
-    rt: &Q,
-    keyer: &Keyer,
-    workers: Vec<M>,
-    bell: &Bell,
-    attendants: Vec<N>,
-    own: N,
-    queue: &Queue<C>,
-    arrivals: A,
-) -> (A, N)
-    requires workers { All (λ m. M.settings m ≡ keyer.now.settings) workers.items }
-    requires attendants { All (λ n. N.settings n ≡ keyer.now.settings) attendants.items }
-    requires own { N.settings own ≡ keyer.now.settings }
+>(rt: &Q, keyer: &Keyer, staff: Staff<'_, M, N>, queue: &Queue<C>, arrivals: A) -> (A, N)
+    requires workers { All (λ m. M.settings m ≡ keyer.now.settings) staff.workers.items }
+    requires attendants { All (λ n. N.settings n ≡ keyer.now.settings) staff.attendants.items }
+    requires own { N.settings staff.own ≡ keyer.now.settings }
     requires since { A.Since arrivals arrivals }
     ensures ended { A.Ended arrivals result.0 }
-    ensures own { N.settings result.1 ≡ N.settings own }
+    ensures own { N.settings result.1 ≡ N.settings staff.own }
 {
+    let Staff {
+        workers,
+        bell,
+        attendants,
+        own,
+    } = staff;
     thread::scope(
         thread::scope_env(),
         rt,

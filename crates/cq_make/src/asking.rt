@@ -36,8 +36,7 @@ fn question(alloc: Global, kind: Kind) -> Result<Query, Memory>
 
 /// The reply to a question about the project, by all changes that are accepted.
 pub(crate) fn reply_of<R: Threads + Sync, L: Ledger>(
-    rt: &R,
-    server: &Server<'_, Solo<Work<L>>, NoLog, OpenGate>,
+    server: &Server<'_, R, Solo<Work<L>>, NoLog, OpenGate>,
     kind: Kind,
     pass: &mut SoloPass<Work<L>>,
     steps: &mut Steps<L>,
@@ -51,5 +50,5 @@ pub(crate) fn reply_of<R: Threads + Sync, L: Ledger>(
         server.now.hub.now pass.old pass.new server.now.keyer.now.settings kind) }
 {
     let query = question(server.alloc, kind)?;
-    query_reply(rt, server, &query, 0, pass, steps)
+    query_reply(server, &query, 0, pass, steps)
 }

@@ -9,4 +9,4 @@ mod making;
 mod putting;
 mod summary;
 
-pub use making::make;
+pub use making::{Project, make};

@@ -25,6 +25,13 @@ use std::alloc::Global;
 use std::sync::ledger::Ledger;
 use std::thread::Threads;
 
+/// The project of a number, of so many files.
+#[derive(Clone, Copy, Debug, PartialEq, Eq)]
+pub struct Project {
+    pub number: u64,
+    pub files: u32,
+}
+
 fn group_count(reply: &Reply) -> u64
     requires { ShowsGroups reply.now }
     ensures { (rows : List GroupRow) (v : ℕ)
@@ -61,24 +68,29 @@ fn rows_in(reply: &Reply) -> &[FileRow]
 fn line_told(
     alloc: Global,
     settings: &Settings,
-    number: u64,
-    files: u32,
+    project: Project,
     groups: &Reply,
     measures: &Reply,
     rows: &Reply,
 ) -> Result<Text, Memory>
-    requires few { files ≤ 262144 }
-    requires groups { IsReply settings.now (puts_to number files) files
+    requires few { project.files ≤ 262144 }
+    requires groups { IsReply settings.now (puts_to project.number project.files) project.files
         (question kind.Groups) groups.now }
-    requires measures { IsReply settings.now (puts_to number files) files
+    requires measures { IsReply settings.now (puts_to project.number project.files) project.files
         (question kind.Measures) measures.now }
-    requires rows { IsReply settings.now (puts_to number files) files
+    requires rows { IsReply settings.now (puts_to project.number project.files) project.files
         (question kind.Files) rows.now }
-    ensures { IfOk result (IsSummary settings.now number files) }
+    ensures { IfOk result (IsSummary settings.now project.number project.files) }
 {
     let groups = group_count(groups);
     let tokens = token_count(rows_in(rows));
-    summary_line(alloc, groups, measures_in(measures), tokens, files as u64)
+    summary_line(
+        alloc,
+        groups,
+        measures_in(measures),
+        tokens,
+        project.files as u64,
+    )
 }
 
 // The line of the project, as a hub of its own answers.
@@ -86,54 +98,52 @@ fn line_made<R: Threads + Sync, L: Ledger>(
     rt: &R,
     alloc: Global,
     settings: &Settings,
-    number: u64,
-    files: u32,
+    project: Project,
     steps: &mut Steps<L>,
 ) -> Result<Text, Memory>
     requires in_range { IsInRange settings.now }
     requires short { settings.now.chunk ≤ 50 }
-    requires few { files ≤ settings.now.change_limit }
-    requires room { 280 * files ≤ settings.now.text_limit }
-    ensures { IfOk result (IsSummary settings.now number files) }
+    requires few { project.files ≤ settings.now.change_limit }
+    requires room { 280 * project.files ≤ settings.now.text_limit }
+    ensures { IfOk result (IsSummary settings.now project.number project.files) }
 {
     let keyer = Keyer::plain(settings);
     let made: (Solo<Work<L>>, SoloPass<Work<L>>) = Solo::new(alloc, settings)?;
     let (hub, mut pass) = made;
-    put_all(alloc, &hub, number, files, &mut pass)?;
+    put_all(alloc, &hub, project.number, project.files, &mut pass)?;
     let server = Server {
+        rt,
         alloc,
         keyer: &keyer,
         hub: &hub,
         keeper: &NoLog,
         gate: &OpenGate,
     };
-    let groups = reply_of(rt, &server, Kind::Groups, &mut pass, steps)?;
-    let measures = reply_of(rt, &server, Kind::Measures, &mut pass, steps)?;
-    let rows = reply_of(rt, &server, Kind::Files, &mut pass, steps)?;
-    line_told(alloc, settings, number, files, &groups, &measures, &rows)
+    let groups = reply_of(&server, Kind::Groups, &mut pass, steps)?;
+    let measures = reply_of(&server, Kind::Measures, &mut pass, steps)?;
+    let rows = reply_of(&server, Kind::Files, &mut pass, steps)?;
+    line_told(alloc, settings, project, &groups, &measures, &rows)
 }
 
-/// Makes the project of a number, of this many files, and writes the one line that describes it: how many groups it has of
-/// at least 50 tokens, its measures, the tokens of its files and its version. Memory is needed only before a byte is
-/// written.
+/// Makes a project, and writes the one line that describes it: how many groups it has of at least 50 tokens, its measures,
+/// the tokens of its files and its version. Memory is needed only before a byte is written.
 pub fn make<R: Threads + Sync, K: Sink, L: Ledger>(
     rt: &R,
     alloc: Global,
     settings: &Settings,
-    number: u64,
-    files: u32,
+    project: Project,
     sink: &mut K,
     steps: &mut Steps<L>,
 ) -> Result<Result<(), Failed>, Memory>
     requires in_range { IsInRange settings.now }
     requires short { settings.now.chunk ≤ 50 }
-    requires few { files ≤ settings.now.change_limit }
-    requires room { 280 * files ≤ settings.now.text_limit }
+    requires few { project.files ≤ settings.now.change_limit }
+    requires room { 280 * project.files ≤ settings.now.text_limit }
     ensures line { IfOk result
-        (Makes settings.now number files (K.written sink.old) (K.written sink.new)) }
+        (Makes settings.now project.number project.files (K.written sink.old) (K.written sink.new)) }
     ensures cause { IfOk result (HasCause (K.faults sink.old) (K.faults sink.new)) }
     ensures memory { OnErr result (sink.new ≡ sink.old) }
 {
-    let line = line_made(rt, alloc, settings, number, files, steps)?;
+    let line = line_made(rt, alloc, settings, project, steps)?;
     Ok(send(sink, line.as_bytes()))
 }

@@ -3,15 +3,16 @@ ghost use Rattle.cq_base.specs.Settings.{IsInRange};
 ghost use Rattle.cq_listen.specs.Endings.{HasEnded, IsServedWith};
 ghost use Rattle.cq_program.specs.Statuses.{HasListened, HasServed};
 
+use crate::host::Host;
 use crate::status::{Exit, Status, status_of_served};
 use cq_base::{Counters, Memory, Settings};
 use cq_chain::Pass;
 use cq_io::{Doors, Failed, Gate, Sink, Source};
-use cq_listen::{Served, serve};
+use cq_listen::{Floor, Served, serve};
+use cq_session::NoLog;
 use cq_shared::Shared;
 use cq_words::Listen;
 use cq_work::Work;
-use std::alloc::Global;
 use std::marker::Brand;
 use std::sync::Wait;
 use std::sync::ledger::{Blank, Ledger};
@@ -26,11 +27,9 @@ fn serve_clients<
     D: Doors<In = I, Out = O>,
     G: Gate + Sync,
 >(
-    rt: &Q,
-    alloc: Global,
+    host: &Host<'_, Q, G>,
     settings: &Settings,
     doors: &mut D,
-    gate: &G,
     workers: u32,
     sessions: u32,
     blank: Blank,
@@ -50,11 +49,19 @@ fn serve_clients<
     let counters: Counters<L> = Counters::new(blank);
     // One caller is the calling thread's, one each session's, and one each worker's.
     let callers = workers + sessions + 1;
-    let made: (Shared<Work<L>, &Q>, Pass<Work<L>>) = Shared::new(rt, alloc, settings, callers)?;
+    let made: (Shared<Work<L>, &Q>, Pass<Work<L>>) = Shared::new(
+        host.rt, host.alloc, settings, callers,
+    )?;
     let (hub, pass) = made;
-    serve(
-        rt, alloc, settings, &counters, &hub, pass, doors, gate, workers, sessions,
-    )
+    let floor = Floor {
+        alloc: host.alloc,
+        settings,
+        counters: &counters,
+        hub: &hub,
+        keeper: &NoLog,
+        gate: host.gate,
+    };
+    serve(host.rt, &floor, pass, doors, workers, sessions)
 }
 
 /// Listens at the address, and serves the connections that come until no more will, on as many threads as there are to be
@@ -66,7 +73,7 @@ pub(crate) fn listen<
     O: Sink + Send + Drop,
     D: Doors<In = I, Out = O>,
     G: Gate + Sync,
->(rt: &Q, alloc: Global, asked: Listen, doors: &mut D, gate: &G) -> Exit
+>(host: &Host<'_, Q, G>, asked: Listen, doors: &mut D) -> Exit
     requires in_range { IsInRange asked.settings }
     requires workers { asked.workers ≤ 64 }
     requires sessions { asked.sessions ≤ 64 }
@@ -85,11 +92,9 @@ pub(crate) fn listen<
     } = asked;
     match doors.bind(address) {
         Ok(()) => match serve_clients::<Q, Brand, I, O, D, G>(
-            rt,
-            alloc,
+            host,
             &settings,
             doors,
-            gate,
             workers,
             sessions,
             Blank::new(1),

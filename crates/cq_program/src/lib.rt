@@ -3,6 +3,7 @@
 #![tactic(auto)]
 
 mod clients;
+mod host;
 mod laws;
 mod logged;
 mod program;

@@ -4,10 +4,11 @@ ghost use Rattle.cq_serve_kept.specs.Continued.{EndsKept};
 ghost use Rattle.cq_program.specs.Statuses.{Ends, status_of_logged};
 ghost use Rattle.cq_program.specs.Top.{Logs, ShortensLog};
 
+use crate::host::Host;
 use crate::status::{Exit, Status, status_of_served, status_of_shortened};
 use cq_base::{Counters, Memory, Settings};
 use cq_io::{Doors, Gate, Sink, Source};
-use cq_serve_kept::{Kept, serve_kept};
+use cq_serve_kept::{Ground, Kept, Place, serve_kept};
 use cq_shorten::shorten;
 use cq_words::Listen;
 use std::alloc::Global;
@@ -27,13 +28,11 @@ fn kept<
     D: Doors<In = I, Out = O>,
     G: Gate + Sync,
 >(
-    rt: &Q,
-    alloc: Global,
+    host: &Host<'_, Q, G>,
     asked: Listen,
     source: &mut S,
     sink: &mut K,
     doors: &mut D,
-    gate: &G,
     blank: Blank,
 ) -> Result<Kept, Memory>
     requires name { blank.name ≡ L.name }
@@ -52,9 +51,19 @@ fn kept<
         sessions,
         connections: _,
     } = asked;
-    serve_kept(
-        rt, alloc, &settings, address, &counters, source, sink, doors, gate, workers, sessions,
-    )
+    let ground = Ground {
+        rt: host.rt,
+        alloc: host.alloc,
+        settings: &settings,
+        counters: &counters,
+        gate: host.gate,
+    };
+    let place = Place {
+        address,
+        workers,
+        sessions,
+    };
+    serve_kept(&ground, place, source, sink, doors)
 }
 
 fn exit_of(kept: Kept) -> Exit
@@ -97,31 +106,14 @@ pub(crate) fn serve_logged<
     O: Sink + Send + Drop,
     D: Doors<In = I, Out = O>,
     G: Gate + Sync,
->(
-    rt: &Q,
-    alloc: Global,
-    asked: Listen,
-    source: &mut S,
-    sink: &mut K,
-    doors: &mut D,
-    gate: &G,
-) -> Exit
+>(host: &Host<'_, Q, G>, asked: Listen, source: &mut S, sink: &mut K, doors: &mut D) -> Exit
     requires in_range { IsInRange asked.settings }
     requires workers { asked.workers ≤ 64 }
     requires sessions { asked.sessions ≤ 64 }
     ensures logs { Logs S.Source K.Sink asked.settings
         source.old source.new sink.old sink.new result.status }
 {
-    match kept::<Q, Brand, S, K, I, O, D, G>(
-        rt,
-        alloc,
-        asked,
-        source,
-        sink,
-        doors,
-        gate,
-        Blank::new(1),
-    ) {
+    match kept::<Q, Brand, S, K, I, O, D, G>(host, asked, source, sink, doors, Blank::new(1)) {
         Ok(kept) => exit_of(kept),
         Err(Memory) => Exit {
             status: Status::Memory,

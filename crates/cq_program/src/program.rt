@@ -11,16 +11,17 @@ ghost use Rattle.cq_words.specs.declared.command.Listen.{Listen};
 ghost use Rattle.cq_words.specs.declared.command.Make.{Make};
 
 use crate::clients::listen;
+use crate::host::Host;
 use crate::logged::{serve_logged, shortened};
 use crate::status::{Exit, Status, status_of, status_of_asked, status_of_exported};
 use crate::workers::serve_with_workers;
 use cq_base::{Memory, Settings, Steps, Text};
-use cq_drive::drive;
+use cq_drive::{Driver, drive};
 use cq_export::export;
 use cq_hub::{Solo, SoloPass};
 use cq_io::{Doors, Failed, Gate, Sink, Source};
 use cq_lines::Lines;
-use cq_make::make;
+use cq_make::{Project, make};
 use cq_session::{NoLog, Server, session};
 use cq_talk::{talks_alone, talks_beside};
 use cq_tokask::ask;
@@ -33,12 +34,10 @@ use std::thread::Threads;
 
 // A session with a plain hub that is made for it, and its status.
 fn serve<R: Threads + Sync, S: Source, K: Sink, G: Gate, L: Ledger>(
-    rt: &R,
-    alloc: Global,
+    host: &Host<'_, R, G>,
     settings: &Settings,
     source: &mut S,
     sink: &mut K,
-    gate: &G,
     steps: &mut Steps<L>,
 ) -> Status
     requires in_range { IsInRange settings.now }
@@ -48,22 +47,23 @@ fn serve<R: Threads + Sync, S: Source, K: Sink, G: Gate, L: Ledger>(
         source.old source.new sink.old sink.new result }
 {
     let keyer = Keyer::plain(settings);
-    let made: Result<(Solo<Work<L>>, SoloPass<Work<L>>), Memory> = Solo::new(alloc, settings);
+    let made: Result<(Solo<Work<L>>, SoloPass<Work<L>>), Memory> = Solo::new(host.alloc, settings);
     let Ok((hub, mut pass)) = made else {
         return Status::Memory;
     };
-    match Lines::new(alloc, settings.byte_limit) {
+    match Lines::new(host.alloc, settings.byte_limit) {
         Ok(mut lines) => {
             talks_alone();
             talks_beside();
             let server = Server {
-                alloc,
+                rt: host.rt,
+                alloc: host.alloc,
                 keyer: &keyer,
                 hub: &hub,
                 keeper: &NoLog,
-                gate,
+                gate: host.gate,
             };
-            let end = session(rt, &server, &mut pass, &mut lines, source, sink, steps);
+            let end = session(&server, &mut pass, &mut lines, source, sink, steps);
             status_of(end)
         }
         Err(Memory) => Status::Memory,
@@ -72,12 +72,10 @@ fn serve<R: Threads + Sync, S: Source, K: Sink, G: Gate, L: Ledger>(
 
 // A session with as many workers beside it as are asked for, and its status.
 fn run_with<Q: Threads + Wait + Sync, S: Source, K: Sink, G: Gate + Sync, L: Ledger + Send + Sync>(
-    rt: &Q,
-    alloc: Global,
+    host: &Host<'_, Q, G>,
     asked: Run,
     source: &mut S,
     sink: &mut K,
-    gate: &G,
     steps: &mut Steps<L>,
 ) -> Status
     requires in_range { IsInRange asked.settings }
@@ -88,9 +86,9 @@ fn run_with<Q: Threads + Wait + Sync, S: Source, K: Sink, G: Gate + Sync, L: Led
         source.old source.new sink.old sink.new result }
 {
     if asked.workers == 0 {
-        serve(rt, alloc, &asked.settings, source, sink, gate, steps)
+        serve(host, &asked.settings, source, sink, steps)
     } else {
-        serve_with_workers(rt, alloc, &asked, source, sink, gate, steps)
+        serve_with_workers(host, &asked, source, sink, steps)
     }
 }
 
@@ -113,7 +111,12 @@ fn driven<R: Threads + Sync, S: Source, K: Sink, L: Ledger>(
     let Ok(mut lines) = Lines::new(alloc, settings.byte_limit) else {
         return Status::Memory;
     };
-    match drive(rt, alloc, &keyer, &mut lines, source, sink, steps) {
+    let driver = Driver {
+        rt,
+        alloc,
+        keyer: &keyer,
+    };
+    match drive(&driver, &mut lines, source, sink, steps) {
         Ok(end) => status_of(end),
         Err(Memory) => Status::Memory,
     }
@@ -131,15 +134,11 @@ fn made<R: Threads + Sync, K: Sink, L: Ledger>(
     ensures ends { EndsUnread K.Sink result sink.old sink.new }
     ensures makes { MakesLine K.Sink asked sink.old sink.new result }
 {
-    match make(
-        rt,
-        alloc,
-        &default_settings(),
-        asked.number,
-        asked.files,
-        sink,
-        steps,
-    ) {
+    let project = Project {
+        number: asked.number,
+        files: asked.files,
+    };
+    match make(rt, alloc, &default_settings(), project, sink, steps) {
         Ok(Ok(())) => Status::Done,
         Ok(Err(Failed)) => Status::WriteFault,
         Err(Memory) => Status::Memory,
@@ -282,15 +281,14 @@ pub fn top<
             served: None,
         };
     }
+    let host = Host { rt, alloc, gate };
     match read_command(alloc, words) {
         Ok(Some(Command::Run(run))) => Exit {
-            status: run_with(rt, alloc, run, source, sink, gate, steps),
+            status: run_with(&host, run, source, sink, steps),
             served: None,
         },
-        Ok(Some(Command::Listen(asked))) => listen(rt, alloc, asked, doors, gate),
-        Ok(Some(Command::Serve(asked))) => {
-            serve_logged(rt, alloc, asked, source, sink, doors, gate)
-        }
+        Ok(Some(Command::Listen(asked))) => listen(&host, asked, doors),
+        Ok(Some(Command::Serve(asked))) => serve_logged(&host, asked, source, sink, doors),
         Ok(Some(Command::Drive(settings))) => Exit {
             status: driven(rt, alloc, &settings, source, sink, steps),
             served: None,

@@ -4,9 +4,10 @@ ghost use Rattle.cq_program.specs.Statuses.{Ends};
 ghost use Rattle.cq_program.specs.Top.{RunsBeside};
 ghost use Rattle.cq_program.specs.declared.status.Status.TheVariants as ended;
 
+use crate::host::Host;
 use crate::status::{Status, status_of};
 use cq_base::{Memory, Steps};
-use cq_beside::serve_one;
+use cq_beside::{Crew, serve_one};
 use cq_chain::Pass;
 use cq_io::{Gate, Sink, Source};
 use cq_lines::Lines;
@@ -14,7 +15,6 @@ use cq_session::{NoLog, Server};
 use cq_shared::Shared;
 use cq_words::Run;
 use cq_work::{Keyer, Work};
-use std::alloc::Global;
 use std::sync::Wait;
 use std::sync::ledger::Ledger;
 use std::thread::Threads;
@@ -27,15 +27,7 @@ pub(crate) fn serve_with_workers<
     K: Sink,
     G: Gate + Sync,
     L: Ledger + Send + Sync,
->(
-    rt: &Q,
-    alloc: Global,
-    asked: &Run,
-    source: &mut S,
-    sink: &mut K,
-    gate: &G,
-    steps: &mut Steps<L>,
-) -> Status
+>(host: &Host<'_, Q, G>, asked: &Run, source: &mut S, sink: &mut K, steps: &mut Steps<L>) -> Status
     requires in_range { IsInRange asked.now.settings }
     requires few { asked.now.workers ≤ 64 }
     ensures untaken { result ≡ ended.Memory → source.new ≡ source.old }
@@ -49,21 +41,23 @@ pub(crate) fn serve_with_workers<
     // One caller is the first pass's, one the session's, and one each worker's.
     let callers = workers + 2;
     let made: Result<(Shared<Work<L>, &Q>, Pass<Work<L>>), Memory> = Shared::new(
-        rt, alloc, settings, callers,
+        host.rt, host.alloc, settings, callers,
     );
     let Ok((hub, pass)) = made else {
         return Status::Memory;
     };
-    match Lines::new(alloc, settings.byte_limit) {
+    match Lines::new(host.alloc, settings.byte_limit) {
         Ok(mut lines) => {
             let server = Server {
-                alloc,
+                rt: host.rt,
+                alloc: host.alloc,
                 keyer: &keyer,
                 hub: &hub,
                 keeper: &NoLog,
-                gate,
+                gate: host.gate,
             };
-            let end = serve_one(rt, &server, pass, &mut lines, source, sink, workers, steps);
+            let crew = Crew { workers, pass };
+            let end = serve_one(&server, crew, &mut lines, source, sink, steps);
             status_of(end)
         }
         Err(Memory) => Status::Memory,

@@ -1,11 +1,16 @@
-ghost use Rattle.std.specs.Prelude.{◌≡◌, [], codes, option_copied, option_map, unwrap_or};
+ghost use Rattle.std.specs.Prelude.{◌≡◌, [], Some, None, codes, option_copied, option_map, unwrap_or, string_bytes, IfOk, IfErr, OnOk};
 ghost use Rattle.std.specs.Str.{IsUtf8};
 ghost use Rattle.serde_json.specs.Find.{get, as_str};
-ghost use Rattle.serde_json.specs.View.{view, items_view};
+ghost use Rattle.serde_json.specs.Data.{number, put};
+ghost use Rattle.serde_json.specs.Read.{number_of};
+ghost use Rattle.serde_json.specs.View.{view, items_view, members_view};
+ghost use Rattle.json.specs.Print.{IsNumber};
 ghost use Rattle.cq_request.specs.Members as members;
+ghost use Rattle.cq_request.specs.Valued.{IsJsonFor};
 
-use cq_base::Text;
-use serde_json::Value;
+use crate::request::ReadError;
+use cq_base::{Memory, Refusal, Text};
+use serde_json::{Map, Value};
 use std::alloc::Global;
 
 /// How many members an object has; 0 for a value that is none.
@@ -77,4 +82,34 @@ pub(crate) fn taken_text(alloc: Global, value: Value) -> Text
         Some(member) => text_of(alloc, member),
         None => Text::from_vec(Vec::new(alloc)),
     }
+}
+
+/// The value that a number spells. `Json` comes exactly if it is too large to have one.
+pub(crate) fn parsed_number(alloc: Global, text: &str) -> Result<Value, ReadError>
+    requires numeral { IsNumber text.now }
+    ensures value { IfOk result (λ v. option_map number (number_of text.now) ≡ Some (view v)) }
+    ensures refused { IfErr result (IsJsonFor (number_of text.now ≡ None)) }
+{
+    match Value::from_str(alloc, text) {
+        Ok(value) => Ok(value),
+        Err(error) => {
+            if error.is_memory() {
+                return Err(ReadError::Memory);
+            }
+            Err(ReadError::Refused(Refusal::Json))
+        }
+    }
+}
+
+/// Puts a member into an object, in place of the one of its name if there is one.
+pub(crate) fn put_member(
+    object: &mut Map<String, Value>,
+    name: String,
+    value: Value,
+) -> Result<(), Memory>
+    ensures { OnOk result (members_view object.new.entries
+        ≡ put (string_bytes name) (view value) (members_view object.old.entries)) }
+{
+    drop(object.insert(name, value)?);
+    Ok(())
 }

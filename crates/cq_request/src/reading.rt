@@ -13,6 +13,7 @@ ghost use Rattle.cq_names.specs.Names as names;
 ghost use Rattle.cq_request.specs.Text as text;
 
 use crate::condition::conditions_in;
+use crate::gist::line_gist;
 use crate::member::{flag_at, list_at, number_at, taken_text, text_at};
 use crate::request::{Kind, Query, ReadError, Request};
 use crate::row::{Op, fault_of, op_of};
@@ -292,7 +293,7 @@ pub fn read_request(alloc: Global, settings: &Settings, line: &[u8]) -> Result<R
     ensures sound { IfOk result (IsSound settings.now.chunk) }
     ensures named { IfErr result IsSoundError }
 {
-    match parsed(alloc, line) {
+    match line_gist(alloc, line) {
         Ok(value) => read_value(alloc, settings, value),
         Err(error) => Err(error),
     }

@@ -1,6 +1,8 @@
 ghost use Rattle.std.specs.Prelude.{◌≡◌};
 
 use cq_base::{Change, Memory, Refusal, Text};
+use json::Invalid;
+use std::alloc::AllocError;
 
 /// What a query shows.
 #[derive(Clone, Copy, Debug, PartialEq, Eq)]
@@ -57,5 +59,26 @@ impl From<Memory> for ReadError {
 
     fn from(_: Memory) -> ReadError {
         ReadError::Memory
+    }
+}
+
+impl From<AllocError> for ReadError {
+    ghost use Rattle.cq_request.specs.declared.request.ReadError.TheVariants as error;
+
+    ghost from_gives = { λ _ e. e ≡ error.Memory };
+
+    fn from(_: AllocError) -> ReadError {
+        ReadError::Memory
+    }
+}
+
+impl From<Invalid> for ReadError {
+    ghost use Rattle.cq_base.specs.declared.refusal.Refusal.TheVariants as refusal;
+    ghost use Rattle.cq_request.specs.declared.request.ReadError.TheVariants as error;
+
+    ghost from_gives = { λ _ e. e ≡ error.Refused refusal.Json };
+
+    fn from(_: Invalid) -> ReadError {
+        ReadError::Refused(Refusal::Json)
     }
 }

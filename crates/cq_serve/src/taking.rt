@@ -14,8 +14,8 @@ use std::sync::ledger::Ledger;
 
 // Publishes what is done, where there is memory for it. Once a line could not be kept, it only asks: a version may then have a
 // change whose line is not kept.
-fn publish_done<L: Ledger, H: Hub<Work<L>>, P: Keeper<Work<L>, H>, G: Gate>(
-    server: &Server<'_, H, P, G>,
+fn publish_done<R, L: Ledger, H: Hub<Work<L>>, P: Keeper<Work<L>, H>, G: Gate>(
+    server: &Server<'_, R, H, P, G>,
     pass: &mut H::Pass,
 )
     requires stands { IsPassOf H.Stands server.now.hub.now pass.old }
@@ -38,8 +38,8 @@ fn publish_done<L: Ledger, H: Hub<Work<L>>, P: Keeper<Work<L>, H>, G: Gate>(
 /// A worker's turn: takes the first change that is neither done nor taken, makes its work, and publishes what is done
 /// then, where there is memory for that. Where there is none to make the work, the change is given back. It costs what
 /// `work_of` does for the change's text, and what it costs to apply the works that are done.
-pub fn turn<L: Ledger, H: Hub<Work<L>>, P: Keeper<Work<L>, H>, G: Gate>(
-    server: &Server<'_, H, P, G>,
+pub fn turn<R, L: Ledger, H: Hub<Work<L>>, P: Keeper<Work<L>, H>, G: Gate>(
+    server: &Server<'_, R, H, P, G>,
     pass: &mut H::Pass,
 ) -> Turn
     requires in_range { IsInRange server.now.keyer.now.settings }

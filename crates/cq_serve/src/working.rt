@@ -27,8 +27,7 @@ fn rest<Q: Wait>(rt: &Q, bell: &Bell, heard: u64, came: Turn) {
 /// A worker: takes turns until the bell's end. Where there is no change to take, or no memory, it sleeps until the bell
 /// rings.
 pub fn work<Q: Wait, L: Ledger, H: Hub<Work<L>>, P: Keeper<Work<L>, H>, G: Gate>(
-    rt: &Q,
-    server: &Server<'_, H, P, G>,
+    server: &Server<'_, Q, H, P, G>,
     pass: H::Pass,
     bell: &Bell,
 ) -> H::Pass
@@ -39,6 +38,7 @@ pub fn work<Q: Wait, L: Ledger, H: Hub<Work<L>>, P: Keeper<Work<L>, H>, G: Gate>
     ensures asked { H.asked result ≡ H.asked pass }
 {
     let mut pass = pass;
+    let rt = server.rt;
     'turns: for _ in rt.forever() {
         let Some(heard) = bell.heard(rt) else {
             break;

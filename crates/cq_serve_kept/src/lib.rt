@@ -9,4 +9,4 @@ mod log;
 mod reloading;
 mod serving;
 
-pub use serving::{Kept, serve_kept};
+pub use serving::{Ground, Kept, Place, serve_kept};

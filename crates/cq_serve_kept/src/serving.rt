@@ -3,6 +3,7 @@ ghost use Rattle.cq_base.specs.Settings.{IsInRange};
 ghost use Rattle.cq_base.specs.declared.change.Change.{Change};
 ghost use Rattle.cq_history.specs.State.{accepted};
 ghost use Rattle.cq_keeper.specs.Firsts.{IsFirst};
+ghost use Rattle.cq_listen.specs.Endings.{IsServedWith};
 ghost use Rattle.cq_listen.specs.Seats.{IsIdle};
 ghost use Rattle.cq_log.specs.Mending.{mending};
 ghost use Rattle.cq_shared.specs.SharedPasses.{callers_of, cells_of, settings_of};
@@ -17,7 +18,7 @@ use cq_chain::Pass;
 use cq_io::{Doors, Failed, Gate, Sink, Source};
 use cq_keeper::LogOf;
 use cq_lines::{LineLog, Lines};
-use cq_listen::{Passes, Served, passes_of, serve_over};
+use cq_listen::{Floor, Passes, Served, passes_of, serve_over};
 use cq_log::{Taken, mend, take_log};
 use cq_shared::Shared;
 use cq_work::{Keyer, Work};
@@ -44,10 +45,77 @@ pub enum Kept {
     Unbound,
 }
 
+/// What a server is made on: the runtime, memory, the settings, the counters of what its sessions read, and the gate to which
+/// each step is reported.
+#[derive(Drop)]
+pub struct Ground<'a, Q, L: Ledger, G> {
+    pub rt: &'a Q,
+    pub alloc: Global,
+    pub settings: &'a Settings,
+    pub counters: &'a Counters<L>,
+    pub gate: &'a G,
+}
+
+/// Where a server listens, and with how many threads.
+#[derive(Drop)]
+pub struct Place {
+    pub address: Text,
+    pub workers: u32,
+    pub sessions: u32,
+}
+
+// A log that was taken: the pass that has its changes, whether its last line has no line feed, and whether that was cut off.
+#[derive(Drop)]
+struct TakenLog<L: Ledger> {
+    pass: Pass<Work<L>>,
+    unclosed: bool,
+    torn: bool,
+}
+
 // Does nothing: by this use, the borrow checker ties the sink to the parameter that lent it.
 fn take_back<K>(sink: &mut K)
     ensures { sink.new ≡ sink.old }
 {}
+
+// Serves the doors over a log, until no more connections will come, a call of the doors fails, or a line can't be written.
+fn serve_over_log<
+    Q: Threads + Wait + Sync,
+    L: Ledger + Send + Sync,
+    N: LogOf + Send,
+    K: Sink + Send,
+    I: Source + Send + Drop,
+    O: Sink + Send + Drop,
+    D: Doors<In = I, Out = O>,
+    G: Gate + Sync,
+>(
+    ground: &Ground<'_, Q, L, G>,
+    hub: &Shared<Work<L>, &Q>,
+    log: &Log<'_, '_, Q, Work<L>, K, N>,
+    passes: Passes<Work<L>>,
+    doors: &mut D,
+) -> Result<Served, Memory>
+    requires in_range { IsInRange ground.now.settings.now }
+    requires settings { settings_of hub.now ≡ ground.now.settings.now }
+    requires cells { cells_of hub.now ≡ N.cells }
+    requires workers { All (IsIdle hub.now) passes.workers.items }
+    requires sessions { All (IsIdle hub.now) passes.sessions.items }
+    requires own { IsIdle hub.now passes.own }
+    requires few { vec_len passes.sessions ≤ 64 }
+    requires bound { IsSome (D.bound doors.old) }
+    ensures made { IfOk result (IsServedWith ground.now.settings.now
+        (vec_len passes.workers) (vec_len passes.sessions)) }
+{
+    let floor = Floor {
+        alloc: ground.alloc,
+        settings: ground.settings,
+        counters: ground.counters,
+        hub,
+        keeper: log,
+        gate: ground.gate,
+    };
+    let mut kept_doors = KeptDoors { doors, log };
+    serve_over(ground.rt, &floor, passes, &mut kept_doors)
+}
 
 // Serves the doors, and continues the log in the sink, by the pass of the first caller.
 fn serve_logging<
@@ -60,19 +128,15 @@ fn serve_logging<
     D: Doors<In = I, Out = O>,
     G: Gate + Sync,
 >(
-    rt: &Q,
-    alloc: Global,
-    settings: &Settings,
-    counters: &Counters<L>,
+    ground: &Ground<'_, Q, L, G>,
     hub: &Shared<Work<L>, &Q>,
     pass: Pass<Work<L>>,
     passes: Passes<Work<L>>,
     sink: &mut K,
     doors: &mut D,
-    gate: &G,
 ) -> Result<Kept, Memory>
-    requires in_range { IsInRange settings.now }
-    requires settings { settings_of hub.now ≡ settings.now }
+    requires in_range { IsInRange ground.now.settings.now }
+    requires settings { settings_of hub.now ≡ ground.now.settings.now }
     requires first { IsFirst hub.now pass }
     requires workers { All (IsIdle hub.now) passes.workers.items }
     requires sessions { All (IsIdle hub.now) passes.sessions.items }
@@ -85,23 +149,10 @@ fn serve_logging<
     requires before { accepted pass.seen ≡ N.before }
     requires faults { K.faults sink.old ≡ N.faults }
     ensures ends { IfOk result
-        (EndsServed K.Sink settings.now [] (accepted pass.seen) sink.old sink.new) }
+        (EndsServed K.Sink ground.now.settings.now [] (accepted pass.seen) sink.old sink.new) }
 {
-    let log: Log<'_, '_, Q, Work<L>, K, N> = Log::new(rt, sink, pass);
-    let served = {
-        let mut kept_doors = KeptDoors { doors, log: &log };
-        serve_over(
-            rt,
-            alloc,
-            settings,
-            counters,
-            hub,
-            &log,
-            passes,
-            &mut kept_doors,
-            gate,
-        )?
-    };
+    let log: Log<'_, '_, Q, Work<L>, K, N> = Log::new(ground.rt, sink, pass);
+    let served = serve_over_log(ground, hub, &log, passes, doors)?;
     let (log, _pass) = log.into_log();
     let LineLog { sink, whole } = log;
     take_back(sink);
@@ -121,33 +172,35 @@ fn serve_taken<
     D: Doors<In = I, Out = O>,
     G: Gate + Sync,
 >(
-    rt: &Q,
-    alloc: Global,
-    settings: &Settings,
-    address: Text,
-    counters: &Counters<L>,
+    ground: &Ground<'_, Q, L, G>,
     hub: &Shared<Work<L>, &Q>,
-    pass: Pass<Work<L>>,
-    unclosed: bool,
-    torn: bool,
+    place: Place,
+    log: TakenLog<L>,
     sink: &mut K,
     doors: &mut D,
-    gate: &G,
-    workers: u32,
-    sessions: u32,
 ) -> Result<Kept, Memory>
-    requires in_range { IsInRange settings.now }
-    requires taken { (changes : List Change) × HasTaken hub.now pass settings.now changes }
-    requires room { workers + sessions + 2 ≤ callers_of hub.now }
-    requires workers { workers ≤ 64 }
-    requires sessions { sessions ≤ 64 }
-    ensures ends { IfOk result (λ by. (changes : List Change) → HasTaken hub.now pass settings.now changes
-        → EndsTaken K.Sink settings.now (mending unclosed torn) changes sink.old sink.new by) }
+    requires in_range { IsInRange ground.now.settings.now }
+    requires taken { (changes : List Change) × HasTaken hub.now log.pass ground.now.settings.now changes }
+    requires room { place.workers + place.sessions + 2 ≤ callers_of hub.now }
+    requires workers { place.workers ≤ 64 }
+    requires sessions { place.sessions ≤ 64 }
+    ensures ends { IfOk result (λ by. (changes : List Change) → HasTaken hub.now log.pass ground.now.settings.now changes
+        → EndsTaken K.Sink ground.now.settings.now (mending log.unclosed log.torn) changes sink.old sink.new by) }
 {
+    let TakenLog {
+        pass,
+        unclosed,
+        torn,
+    } = log;
+    let Place {
+        address,
+        workers,
+        sessions,
+    } = place;
     let mut pass = pass;
     let passes = Passes {
-        workers: passes_of(alloc, hub, &mut pass, workers)?,
-        sessions: passes_of(alloc, hub, &mut pass, sessions)?,
+        workers: passes_of(ground.alloc, hub, &mut pass, workers)?,
+        sessions: passes_of(ground.alloc, hub, &mut pass, sessions)?,
         own: hub.split_pass(&mut pass),
     };
     match doors.bind(address) {
@@ -158,9 +211,7 @@ fn serve_taken<
         Ok(()) => {}
         Err(Failed) => return Ok(Kept::Broken),
     }
-    serve_logging::<Q, L, Brand, K, I, O, D, G>(
-        rt, alloc, settings, counters, hub, pass, passes, sink, doors, gate,
-    )
+    serve_logging::<Q, L, Brand, K, I, O, D, G>(ground, hub, pass, passes, sink, doors)
 }
 
 /// Takes a log from the source up to its end, binds the address, mends the end of the log, and serves the connections that come
@@ -177,48 +228,55 @@ pub fn serve_kept<
     D: Doors<In = I, Out = O>,
     G: Gate + Sync,
 >(
-    rt: &Q,
-    alloc: Global,
-    settings: &Settings,
-    address: Text,
-    counters: &Counters<L>,
+    ground: &Ground<'_, Q, L, G>,
+    place: Place,
     source: &mut S,
     sink: &mut K,
     doors: &mut D,
-    gate: &G,
-    workers: u32,
-    sessions: u32,
 ) -> Result<Kept, Memory>
-    requires in_range { IsInRange settings.now }
-    requires workers { workers ≤ 64 }
-    requires sessions { sessions ≤ 64 }
-    ensures log { IfOk result
-        (EndsKept S.Source K.Sink settings.now source.old source.new sink.old sink.new) }
+    requires in_range { IsInRange ground.now.settings.now }
+    requires workers { place.workers ≤ 64 }
+    requires sessions { place.sessions ≤ 64 }
+    ensures log { IfOk result (EndsKept S.Source K.Sink ground.now.settings.now
+        source.old source.new sink.old sink.new) }
 {
     // One caller is the log's, one the calling thread's, one each session's, and one each worker's.
-    let callers = workers + sessions + 2;
+    let callers = place.workers + place.sessions + 2;
     let made: (Shared<Work<L>, &Q>, Pass<Work<L>>) = Shared::with_first_accepting(
-        rt, alloc, settings, callers,
+        ground.rt,
+        ground.alloc,
+        ground.settings,
+        callers,
     )?;
     let (hub, pass) = made;
-    let keyer = Keyer::plain(settings);
-    let mut lines = Lines::new(alloc, settings.byte_limit)?;
+    let keyer = Keyer::plain(ground.settings);
+    let mut lines = Lines::new(ground.alloc, ground.settings.byte_limit)?;
     let mut reloaded = Reloaded {
         keyer: &keyer,
         hub: &hub,
         pass,
     };
-    let taken = take_log(alloc, settings, &mut reloaded, &mut lines, source)?;
+    let taken = take_log(
+        ground.alloc,
+        ground.settings,
+        &mut reloaded,
+        &mut lines,
+        source,
+    )?;
     let Reloaded {
         keyer: _,
         hub: _,
         pass,
     } = reloaded;
     match taken {
-        Taken::All { unclosed, torn } => serve_taken(
-            rt, alloc, settings, address, counters, &hub, pass, unclosed, torn, sink, doors, gate,
-            workers, sessions,
-        ),
+        Taken::All { unclosed, torn } => {
+            let log = TakenLog {
+                pass,
+                unclosed,
+                torn,
+            };
+            serve_taken(ground, &hub, place, log, sink, doors)
+        }
         Taken::Spent => Ok(Kept::Spent),
         Taken::Failed => Ok(Kept::ReadFault),
         Taken::Refused => Ok(Kept::Refused),

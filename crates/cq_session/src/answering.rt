@@ -12,6 +12,7 @@ ghost use Rattle.cq_session.specs.Passes.{Begins, GivesUp, HasAccepted, HasAnswe
 use crate::helping::help;
 use crate::viewing::view_reply;
 use crate::{Keeper, NoLog, Server};
+use cq_answer::cause_told;
 use cq_base::{Change, Memory, Refusal, Steps};
 use cq_board::Refused;
 use cq_hub::Hub;
@@ -25,8 +26,8 @@ use std::sync::ledger::Ledger;
 use std::thread::Threads;
 
 // The reply to a change that a line says; none if its line could not be kept.
-fn change_reply<W: Indexed, H: Hub<W>, P: Keeper<W, H>, G: Gate>(
-    server: &Server<'_, H, P, G>,
+fn change_reply<R, W: Indexed, H: Hub<W>, P: Keeper<W, H>, G: Gate>(
+    server: &Server<'_, R, H, P, G>,
     change: Change,
     line: &[u8],
     pass: &mut H::Pass,
@@ -51,19 +52,17 @@ fn change_reply<W: Indexed, H: Hub<W>, P: Keeper<W, H>, G: Gate>(
             server.gate.after_accept(number);
             Ok(Some(Reply::Change(number)))
         }
-        Err(Unkept::Refused(Refused::Absent)) => Ok(Some(Reply::Refused(Refusal::Absent))),
-        Err(Unkept::Refused(Refused::FullChanges)) => {
-            Ok(Some(Reply::Refused(Refusal::FullChanges)))
-        }
-        Err(Unkept::Refused(Refused::FullText)) => Ok(Some(Reply::Refused(Refusal::FullText))),
-        Err(Unkept::Refused(Refused::Memory)) => Err(Memory),
+        Err(Unkept::Refused(cause)) => match cause {
+            Refused::Memory => Err(Memory),
+            _ => Ok(Some(cause_told(cause))),
+        },
         Err(Unkept::Broken) => Ok(None),
     }
 }
 
 // The reply that reports the state; none if a line could not be kept.
-fn state_reply<W: Indexed, H: Hub<W>, P: Keeper<W, H>, G>(
-    server: &Server<'_, H, P, G>,
+fn state_reply<R, W: Indexed, H: Hub<W>, P: Keeper<W, H>, G>(
+    server: &Server<'_, R, H, P, G>,
     pass: &mut H::Pass,
 ) -> Option<Reply>
     requires stands { IsPassOf H.Stands server.now.hub.now pass.old }
@@ -96,8 +95,7 @@ fn without_works(floor: u64, done: u64, accepted: u64) -> u64
 // The reply to a query whose floor is at least `seen`; none if a line could not be kept, and then nothing was done. After an
 // answer by a view the hub is swept. If memory runs out, what was done is a beginning of what the query does.
 fn kept_query_reply<R: Threads + Sync, L: Ledger, H: Hub<Work<L>>, P: Keeper<Work<L>, H>, G: Gate>(
-    rt: &R,
-    server: &Server<'_, H, P, G>,
+    server: &Server<'_, R, H, P, G>,
     query: &Query,
     seen: u64,
     pass: &mut H::Pass,
@@ -125,7 +123,7 @@ fn kept_query_reply<R: Threads + Sync, L: Ledger, H: Hub<Work<L>>, P: Keeper<Wor
     }
     if query.finish {
         return match help(server, asked.done, asked.accepted, pass) {
-            Ok(()) => match view_reply(rt, server, query, asked.accepted, pass, steps) {
+            Ok(()) => match view_reply(server, query, asked.accepted, pass, steps) {
                 Ok(reply) => Ok(Some(reply)),
                 Err(Memory) => Err(Memory),
             },
@@ -137,7 +135,7 @@ fn kept_query_reply<R: Threads + Sync, L: Ledger, H: Hub<Work<L>>, P: Keeper<Wor
         return Ok(Some(Reply::Pending(asked.done + 1)));
     }
     let to = without_works(floor, asked.done, asked.accepted);
-    match view_reply(rt, server, query, to, pass, steps) {
+    match view_reply(server, query, to, pass, steps) {
         Ok(reply) => Ok(Some(reply)),
         Err(Memory) => Err(Memory),
     }
@@ -146,8 +144,7 @@ fn kept_query_reply<R: Threads + Sync, L: Ledger, H: Hub<Work<L>>, P: Keeper<Wor
 /// The reply to a query whose floor is at least `seen`. After an answer by a view the hub is swept. If memory runs
 /// out, what was done is a beginning of what the query does.
 pub fn query_reply<R: Threads + Sync, L: Ledger, H: Hub<Work<L>>, G: Gate>(
-    rt: &R,
-    server: &Server<'_, H, NoLog, G>,
+    server: &Server<'_, R, H, NoLog, G>,
     query: &Query,
     seen: u64,
     pass: &mut H::Pass,
@@ -165,7 +162,7 @@ pub fn query_reply<R: Threads + Sync, L: Ledger, H: Hub<Work<L>>, G: Gate>(
     ensures refused { OnErr result
         (GivesUp H.Hub server.now.hub.now pass.old pass.new steps.old steps.new seen query.now) }
 {
-    match kept_query_reply(rt, server, query, seen, pass, steps) {
+    match kept_query_reply(server, query, seen, pass, steps) {
         Ok(Some(reply)) => Ok(reply),
         Ok(None) => unreachable!(),
         Err(Memory) => Err(Memory),
@@ -181,8 +178,7 @@ pub(crate) fn reply_to<
     P: Keeper<Work<L>, H>,
     G: Gate,
 >(
-    rt: &R,
-    server: &Server<'_, H, P, G>,
+    server: &Server<'_, R, H, P, G>,
     line: &[u8],
     seen: u64,
     pass: &mut H::Pass,
@@ -204,7 +200,7 @@ pub(crate) fn reply_to<
 {
     match read_request(server.alloc, &server.keyer.settings, line) {
         Ok(Request::Change(change)) => change_reply(server, change, line, pass),
-        Ok(Request::Query(query)) => kept_query_reply(rt, server, &query, seen, pass, steps),
+        Ok(Request::Query(query)) => kept_query_reply(server, &query, seen, pass, steps),
         Ok(Request::State) => Ok(state_reply(server, pass)),
         Err(ReadError::Refused(refusal)) => Ok(Some(Reply::Refused(refusal))),
         Err(ReadError::Memory) => Err(Memory),

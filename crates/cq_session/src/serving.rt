@@ -24,8 +24,7 @@ use std::thread::Threads;
 // Writes the reply to a line, which is not too long, and answers whether the session stops there. What the reply names is
 // seen from then on. If a line could not be kept, nothing is written.
 fn turn<R: Threads + Sync, L: Ledger, H: Hub<Work<L>>, P: Keeper<Work<L>, H>, K: Sink, G: Gate>(
-    rt: &R,
-    server: &Server<'_, H, P, G>,
+    server: &Server<'_, R, H, P, G>,
     line: &[u8],
     first: bool,
     seen: &mut u64,
@@ -47,7 +46,7 @@ fn turn<R: Threads + Sync, L: Ledger, H: Hub<Work<L>>, P: Keeper<Work<L>, H>, K:
         (MayStop (P.Breaks server.now.keeper.now) (P.strict server.now.keeper.now))) }
     ensures cause { HasCause (K.faults sink.old) (K.faults sink.new) result }
 {
-    let Some(told) = told(rt, server, line, *seen, pass, steps) else {
+    let Some(told) = told(server, line, *seen, pass, steps) else {
         return Ok(Some(Stop::Unkept));
     };
     *seen = (*seen).max(told.number);
@@ -61,8 +60,7 @@ fn turn<R: Threads + Sync, L: Ledger, H: Hub<Work<L>>, P: Keeper<Work<L>, H>, K:
 // when the talk is over.
 #[derive(Drop)]
 struct Talk<'a, 's, 'p, 'c, R, L: Ledger, H: Hub<Work<L>>, P, G> {
-    rt: &'a R,
-    server: &'a Server<'s, H, P, G>,
+    server: &'a Server<'s, R, H, P, G>,
     pass: &'p mut H::Pass,
     met: Met,
     seen: u64,
@@ -127,7 +125,6 @@ impl<
     fn answer<K: Sink>(&mut self, line: &[u8], sink: &mut K) -> Result<Option<Stop>, Failed> {
         let first = meet(&mut self.met);
         match turn(
-            self.rt,
             self.server,
             line,
             first,
@@ -176,8 +173,7 @@ pub fn kept_session<
     K: Sink,
     G: Gate,
 >(
-    rt: &R,
-    server: &Server<'_, H, P, G>,
+    server: &Server<'_, R, H, P, G>,
     pass: &mut H::Pass,
     lines: &mut Lines,
     source: &mut S,
@@ -198,7 +194,6 @@ pub fn kept_session<
     ensures limit { lines.new.limit ≡ lines.old.limit }
 {
     let mut talk = Talk {
-        rt,
         server,
         pass,
         met: Met::Nobody,
@@ -210,8 +205,7 @@ pub fn kept_session<
 
 /// Answers the lines of a source, as `kept_session` does, and keeps none: each change is accepted by its caller.
 pub fn session<R: Threads + Sync, L: Ledger, H: Hub<Work<L>>, S: Source, K: Sink, G: Gate>(
-    rt: &R,
-    server: &Server<'_, H, NoLog, G>,
+    server: &Server<'_, R, H, NoLog, G>,
     pass: &mut H::Pass,
     lines: &mut Lines,
     source: &mut S,
@@ -227,7 +221,7 @@ pub fn session<R: Threads + Sync, L: Ledger, H: Hub<Work<L>>, S: Source, K: Sink
     ensures cause { HasCauseOfEnd S.Source K.Sink source.old source.new sink.old sink.new result }
     ensures limit { lines.new.limit ≡ lines.old.limit }
 {
-    match kept_session(rt, server, pass, lines, source, sink, steps) {
+    match kept_session(server, pass, lines, source, sink, steps) {
         Ok(end) => end,
         Err(Stop::Unkept) => unreachable!(),
         Err(Stop::Stranger) => unreachable!(),

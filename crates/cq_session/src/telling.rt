@@ -82,8 +82,7 @@ fn told_memory() -> ReplyLine
 
 /// The reply to a line; none if a line could not be kept.
 pub(crate) fn told<R: Threads + Sync, L: Ledger, H: Hub<Work<L>>, P: Keeper<Work<L>, H>, G: Gate>(
-    rt: &R,
-    server: &Server<'_, H, P, G>,
+    server: &Server<'_, R, H, P, G>,
     line: &[u8],
     seen: u64,
     pass: &mut H::Pass,
@@ -100,7 +99,7 @@ pub(crate) fn told<R: Threads + Sync, L: Ledger, H: Hub<Work<L>>, P: Keeper<Work
     ensures broken { IsBroken (P.Breaks server.now.keeper.now)
         (HasWaited H.Hub server.now.hub.now pass.old pass.new) result }
 {
-    match reply_to(rt, server, line, seen, pass, steps) {
+    match reply_to(server, line, seen, pass, steps) {
         Ok(Some(reply)) => match line_of(server.alloc, &reply) {
             Ok(line) => Some(ReplyLine {
                 line,

@@ -7,7 +7,7 @@ ghost use Rattle.cq_work.specs.Work.{IsWorkOf};
 ghost use Rattle.cq_session.specs.Passes.{CostsOpen, HasOpen, HasReady, HasShown, HasShut, HasSwept, HasViewOpen, HasViewedOrNot, KeepsOpen, ShowsOpen};
 
 use crate::{PassBuckets, Server};
-use cq_answer::answer;
+use cq_answer::{ProjectAt, answer};
 use cq_base::{Memory, Steps};
 use cq_board::View;
 use cq_hub::Hub;
@@ -22,8 +22,7 @@ use std::thread::Threads;
 
 // The reply to a query in a view that the pass has open.
 fn reply_in<R: Threads + Sync, L: Ledger, H: Hub<Work<L>>, P, G: Gate>(
-    rt: &R,
-    server: &Server<'_, H, P, G>,
+    server: &Server<'_, R, H, P, G>,
     view: &View<Work<L>>,
     query: &Query,
     pass: &mut H::Pass,
@@ -50,17 +49,13 @@ fn reply_in<R: Threads + Sync, L: Ledger, H: Hub<Work<L>>, P, G: Gate>(
         files,
         pass,
     };
-    answer(
-        rt,
-        server.alloc,
-        &server.keyer.settings,
+    let at = ProjectAt {
+        settings: &server.keyer.settings,
         files,
         conditions,
-        query,
-        view.version,
-        &mut buckets,
-        steps,
-    )
+        version: view.version,
+    };
+    answer(server.rt, server.alloc, &at, query, &mut buckets, steps)
 }
 
 // Shuts the view after its reply was made, or memory ran out, and returns which of the two it was.
@@ -92,8 +87,7 @@ fn sweep_behind<W: Indexed, H: Hub<W>>(alloc: Global, hub: &H, pass: &mut H::Pas
 /// The reply to a query at a version that is not below `to`, up to which all changes are done. A view of it is opened
 /// for the reply, and is shut again however that ends. After a reply the hub is swept.
 pub(crate) fn view_reply<R: Threads + Sync, L: Ledger, H: Hub<Work<L>>, P, G: Gate>(
-    rt: &R,
-    server: &Server<'_, H, P, G>,
+    server: &Server<'_, R, H, P, G>,
     query: &Query,
     to: u64,
     pass: &mut H::Pass,
@@ -119,7 +113,7 @@ pub(crate) fn view_reply<R: Threads + Sync, L: Ledger, H: Hub<Work<L>>, P, G: Ga
         Err(Memory) => Err(Memory),
         Ok(view) => {
             server.gate.after_open(view.version);
-            let reply = reply_in(rt, server, &view, query, pass, steps);
+            let reply = reply_in(server, &view, query, pass, steps);
             match close_behind(server.hub, view, reply, pass) {
                 Ok(reply) => {
                     sweep_behind(server.alloc, server.hub, pass);

@@ -35,13 +35,14 @@ pub(crate) fn conversed<Q: Threads + Sync, L: Ledger, R: Wait, S: Source, K: Sin
     let mut lines = Lines::new(alloc, settings.byte_limit)?;
     let mut steps: Steps<L> = counters.counter();
     let server = Server {
+        rt,
         alloc,
         keyer: &keyer,
         hub,
         keeper: &NoLog,
         gate,
     };
-    let end = session(rt, &server, &mut pass, &mut lines, source, sink, &mut steps);
+    let end = session(&server, &mut pass, &mut lines, source, sink, &mut steps);
     Ok(end)
 }
 

@@ -35,6 +35,7 @@ const TOLD: &str = r#"{"change":1,"ok":true}
 
 // A worker's turn, begun when the client was told that its upload is accepted.
 fn turned<Q: Wait + Clock, L: Ledger, R: Wait>(
+    rt: &Q,
     alloc: Global,
     settings: &Settings,
     hub: &Shared<Work<L>, R>,
@@ -52,6 +53,7 @@ fn turned<Q: Wait + Clock, L: Ledger, R: Wait>(
     };
     stage.wait(Who::Worker(1), Until::Told(0, 0));
     let server = Server {
+        rt,
         alloc,
         keyer: &keyer,
         hub,
@@ -93,7 +95,7 @@ fn come<Q: Threads + Wait + Clock + Sync, L: Ledger + Send + Sync>(
         move || -> Result<Turn, Memory>
             requires { IsInRange settings.now × (settings_of hub.now ≡ settings.now)
                 × IsPassOf hub.now one }
-        { turned(alloc, settings, hub, stage, one) },
+        { turned(rt, alloc, settings, hub, stage, one) },
         move || -> Result<End, Memory>
             requires { IsInRange settings.now × (settings_of hub.now ≡ settings.now)
                 × IsPassOf hub.now two × (two.seen ≡ []) }

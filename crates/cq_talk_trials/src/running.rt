@@ -33,13 +33,14 @@ pub fn written<R: Threads + Sync, L: Ledger, H: Hub<Work<L>>, G: Gate>(
     let mut source = MemSource::new(bytes, 97, Vec::new(alloc));
     let mut sink = MemSink::new(alloc, 1_048_576, 89, Vec::new(alloc))?;
     let server = Server {
+        rt,
         alloc,
         keyer,
         hub,
         keeper: &NoLog,
         gate,
     };
-    let end = session(rt, &server, pass, &mut lines, &mut source, &mut sink, steps);
+    let end = session(&server, pass, &mut lines, &mut source, &mut sink, steps);
     let output = Vec::from_slice(alloc, sink.written())?;
     Ok((end, output))
 }

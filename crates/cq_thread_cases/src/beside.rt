@@ -2,7 +2,7 @@ ghost use Rattle.std.specs.Prelude.{◌≡◌, ◌≤◌};
 ghost use Rattle.cq_base.specs.Settings.{IsInRange};
 
 use cq_base::{Counters, Memory, Settings, Steps};
-use cq_beside::serve_one;
+use cq_beside::{Crew, serve_one};
 use cq_chain::Pass;
 use cq_io::{Gate, MemSink, MemSource, Sink, Source};
 use cq_lines::{End, Lines};
@@ -65,15 +65,15 @@ fn served<Q: Threads + Wait + Sync, L: Ledger + Send + Sync, S: Source, K: Sink,
     let (hub, pass) = made;
     let mut lines = Lines::new(alloc, settings.byte_limit)?;
     let server = Server {
+        rt,
         alloc,
         keyer: &keyer,
         hub: &hub,
         keeper: &NoLog,
         gate,
     };
-    let end = serve_one(
-        rt, &server, pass, &mut lines, source, sink, workers, &mut steps,
-    );
+    let crew = Crew { workers, pass };
+    let end = serve_one(&server, crew, &mut lines, source, sink, &mut steps);
     Ok(end)
 }
 

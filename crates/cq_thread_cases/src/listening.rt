@@ -6,7 +6,8 @@ use crate::beside::SETTINGS;
 use cq_base::{Counters, Memory, Settings, Text};
 use cq_chain::Pass;
 use cq_io::{Doors, Failed};
-use cq_listen::{Served, serve};
+use cq_listen::{Floor, Served, serve};
+use cq_session::NoLog;
 use cq_shared::Shared;
 use cq_stage::{Client, Hold, Late, LogDoors, Scene, Stage};
 use cq_work::Work;
@@ -70,9 +71,15 @@ fn served<Q: Threads + Wait + Clock + Sync, L: Ledger + Send + Sync>(
         workers + sessions + 1,
     )?;
     let (hub, pass) = made;
-    serve(
-        rt, alloc, settings, &counters, &hub, pass, doors, gate, workers, sessions,
-    )
+    let floor = Floor {
+        alloc,
+        settings,
+        counters: &counters,
+        hub: &hub,
+        keeper: &NoLog,
+        gate,
+    };
+    serve(rt, &floor, pass, doors, workers, sessions)
 }
 
 // The same, unless it can't begin.

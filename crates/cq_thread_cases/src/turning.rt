@@ -39,8 +39,8 @@ fn put(alloc: Global, text: &str) -> Result<Change, Memory>
 }
 
 // What two turns come to after a change is accepted, and what is done and published then.
-fn two_turns<L: Ledger, H: Hub<Work<L>>, G: Gate>(
-    server: &Server<'_, H, NoLog, G>,
+fn two_turns<R, L: Ledger, H: Hub<Work<L>>, G: Gate>(
+    server: &Server<'_, R, H, NoLog, G>,
     change: Change,
     pass: &mut H::Pass,
 ) -> Result<(Turn, Turn, u64, u64), Refused>
@@ -57,7 +57,12 @@ fn two_turns<L: Ledger, H: Hub<Work<L>>, G: Gate>(
 }
 
 // The same of a new hub, and of an upload of this text.
-fn turns(alloc: Global, settings: &Settings, text: &str) -> Result<(Turn, Turn, u64, u64), Refused>
+fn turns<R>(
+    rt: &R,
+    alloc: Global,
+    settings: &Settings,
+    text: &str,
+) -> Result<(Turn, Turn, u64, u64), Refused>
     requires in_range { IsInRange settings.now }
     requires short { length text.now ≤ 1048576 }
 {
@@ -66,6 +71,7 @@ fn turns(alloc: Global, settings: &Settings, text: &str) -> Result<(Turn, Turn, 
     let (hub, mut pass) = made;
     let change = put(alloc, text)?;
     let server = Server {
+        rt,
         alloc,
         keyer: &keyer,
         hub: &hub,
@@ -75,7 +81,8 @@ fn turns(alloc: Global, settings: &Settings, text: &str) -> Result<(Turn, Turn, 
     two_turns(&server, change, &mut pass)
 }
 
-fn turns_here(
+fn turns_here<R>(
+    rt: &R,
     alloc: Global,
     settings: &Settings,
     text: &str,
@@ -86,12 +93,12 @@ fn turns_here(
     if text.len() > 1_048_576 {
         return Ok(None);
     }
-    Ok(Some(turns(alloc, settings, text)?))
+    Ok(Some(turns(rt, alloc, settings, text)?))
 }
 
 #[test]
 fn a_turn_makes_the_work_that_is_left(rt: HostRuntime) -> Result<(), Refused> {
-    let turns = turns_here(rt.alloc(), &SETTINGS, "a b a b")?;
+    let turns = turns_here(&rt, rt.alloc(), &SETTINGS, "a b a b")?;
     assert_eq!(rt; turns, Some((Turn::Worked(1), Turn::Idle, 1, 1)));
     Ok(())
 }
@@ -121,7 +128,10 @@ fn a_turn_gives_back_what_it_has_no_memory_for(rt: HostRuntime) -> Result<(), Re
         (Turn::GaveBack(1), Turn::GaveBack(1), 0, 0)
     };
     let text = longest_text(rt.alloc())?;
-    assert_eq!(rt; turns_here(rt.alloc(), &SETTINGS, &text)?, Some(wanted));
+    assert_eq!(rt;
+        turns_here(&rt, rt.alloc(), &SETTINGS, &text)?,
+        Some(wanted)
+    );
     Ok(())
 }
 

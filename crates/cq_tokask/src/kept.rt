@@ -2,11 +2,12 @@ ghost use Rattle.std.specs.Prelude.{◌≡◌, IfOk, OnErr};
 ghost use Rattle.cq_base.specs.Settings.{IsInRange};
 ghost use Rattle.cq_tokask.specs.Kept.{Asks, TakesNoLine};
 
-use crate::asking::ask_lines;
+use crate::asking::Asking;
 use crate::taking::{Front, take_front};
+use crate::version::KeptVersion;
 use cq_base::{Memory, Steps};
 use cq_io::{Sink, Source};
-use cq_lines::{End, Lines};
+use cq_lines::{End, Lines, serve_lines};
 use cq_tokfile::{Loaded, Snapshot, decode};
 use cq_work::Keyer;
 use std::alloc::Global;
@@ -50,16 +51,16 @@ pub fn ask<R: Threads + Sync, L: Ledger, S: Source, K: Sink>(
     };
     let mut loaded = Loaded::new(alloc, &snapshot)?;
     let mut lines = Lines::new(alloc, keyer.settings.byte_limit)?;
-    let end = ask_lines(
+    let mut asking = Asking {
         rt,
         alloc,
-        &keyer.settings,
-        &snapshot,
-        &mut loaded,
-        &mut lines,
-        source,
-        sink,
+        kept: KeptVersion {
+            settings: &keyer.settings,
+            snapshot: &snapshot,
+        },
+        loaded: &mut loaded,
         steps,
-    );
+    };
+    let end = serve_lines(&mut asking, &mut lines, source, sink);
     Ok(Asked::Ended(end))
 }

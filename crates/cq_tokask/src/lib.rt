@@ -10,7 +10,7 @@ mod kept;
 mod laws;
 mod taking;
 mod telling;
+mod version;
 
-pub use asking::ask_lines;
 pub use kept::{Asked, ask};
 pub use laws::a_kept_version_answers_as_its_changes;

@@ -9,9 +9,10 @@ ghost use Rattle.cq_tokfile.specs.Loaded.{IsLoadedOf};
 ghost use Rattle.cq_tokfile.specs.Snapshot.{IsSoundSnapshot};
 
 use crate::answering::reply_to;
-use cq_base::{Memory, Settings, Steps};
+use crate::version::KeptVersion;
+use cq_base::{Memory, Steps};
 use cq_reply::{Line, Short, fixed, line_of};
-use cq_tokfile::{Loaded, Snapshot};
+use cq_tokfile::Loaded;
 use std::alloc::Global;
 use std::sync::ledger::Ledger;
 use std::thread::Threads;
@@ -20,21 +21,20 @@ use std::thread::Threads;
 pub(crate) fn told<R: Threads + Sync, L: Ledger>(
     rt: &R,
     alloc: Global,
-    settings: &Settings,
-    snapshot: &Snapshot<L>,
+    kept: &KeptVersion<'_, L>,
     loaded: &mut Loaded<L>,
     line: &[u8],
     steps: &mut Steps<L>,
 ) -> Line
-    requires in_range { IsInRange settings.now }
-    requires sound { IsSoundSnapshot settings.now snapshot.now }
-    requires loaded { IsLoadedOf snapshot.now.files loaded.old }
+    requires in_range { IsInRange kept.now.settings.now }
+    requires sound { IsSoundSnapshot kept.now.settings.now kept.now.snapshot.now }
+    requires loaded { IsLoadedOf kept.now.snapshot.now.files loaded.old }
     requires short { length line.now ≤ line_limit }
-    ensures told { (reply : Reply) × AnswersLine snapshot.now settings.now line.now reply
+    ensures told { (reply : Reply) × AnswersLine kept.now.snapshot.now kept.now.settings.now line.now reply
         × (bytes_of result ≡ line_of reply) }
-    ensures loaded { IsLoadedOf snapshot.now.files loaded.new }
+    ensures loaded { IsLoadedOf kept.now.snapshot.now.files loaded.new }
 {
-    match reply_to(rt, alloc, settings, snapshot, loaded, line, steps) {
+    match reply_to(rt, alloc, kept, loaded, line, steps) {
         Ok(reply) => match line_of(alloc, &reply) {
             Ok(line) => line,
             Err(Memory) => Line::Short(fixed(Short::Memory)),

@@ -5,7 +5,7 @@ use Rattle.cq_beside.proofs.joining.+beside+fn-beside-join+arg3.Goals as goal
 
 pub returns : goal.returns
 returns g t c =
-    let hub = c.args.hub.now in
+    let hub = c.args.floor.now.hub.now in
     let p = c.args.pass in
     let split = c.split_pass-mine.ensures in
     let mine = c.split_pass-mine.result in

@@ -11,13 +11,13 @@ talk-told-requires g c =
       may = c.requires.may;
       settings = c.requires.talks;
       of = split.of.1;
-      closed = child_closed c.args.hub.now c.args.pass c.split_pass-own.result split.child c.requires.of c.requires.room;
+      closed = child_closed c.args.floor.now.hub.now c.args.pass c.split_pass-own.result split.child c.requires.of c.requires.room;
       unasked = child_unasked c.args.pass c.split_pass-own.result split.child;
     }
 
 pub returns : goal.returns
 returns g c =
-    let hub = c.args.hub.now in
+    let hub = c.args.floor.now.hub.now in
     let split = c.split_pass-own.ensures in
     let joined = c.join_pass.ensures in
     let Said = g.T.Talker.Said c.args.talker c.talk-told.result (callers_of hub) in

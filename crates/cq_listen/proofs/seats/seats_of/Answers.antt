@@ -11,10 +11,10 @@ seats-preserved g c =
     let step = c.in-Some.ensures.steps.0 in
     let left = ap length step in
     record {
-      idle = rest_idle c.args.hub.now (into_iter_items c.seats.own-iterator) (into_iter_items c.next.new.self) c.in-Some.own step i.idle;
+      idle = rest_idle c.args.floor.now.hub.now (into_iter_items c.seats.own-iterator) (into_iter_items c.next.new.self) c.in-Some.own step i.idle;
       number = omega (arith, len, number, left);
-      settings = one_more_of c.args.settings.now c.seats.seats.items c.push.new.self.items c.in_ok-new.field-0 c.in_ok-push.ensures.items i.settings c.in_ok-new.ensures;
+      settings = one_more_of c.args.floor.now.settings.now c.seats.seats.items c.push.new.self.items c.in_ok-new.field-0 c.in_ok-push.ensures.items i.settings c.in_ok-new.ensures;
     }
 
 pub new-requires-clause-idle : goal.new-requires-clause-idle
-new-requires-clause-idle g c = first_idle c.args.hub.now (into_iter_items c.seats.own-iterator) (into_iter_items c.next.new.self) c.in-Some.own c.in-Some.ensures.steps.0 c.seats.invariant.idle
+new-requires-clause-idle g c = first_idle c.args.floor.now.hub.now (into_iter_items c.seats.own-iterator) (into_iter_items c.next.new.self) c.in-Some.own c.in-Some.ensures.steps.0 c.seats.invariant.idle

@@ -5,7 +5,7 @@ use Rattle.cq_listen.proofs.seats.seats_of.Given as goal
 
 abbrev pub invariant-seats : goal.invariant-seats
 invariant-seats g l = record {
-  idle : All (IsIdle l.hub) (into_iter_items l.own-iterator);
+  idle : All (IsIdle l.floor.hub.now) (into_iter_items l.own-iterator);
   number : vec_len l.seats + length (into_iter_items l.own-iterator) ≡ vec_len l.fn.passes;
-  settings : All (λ seat. seat ≡ l.settings) l.seats.items;
+  settings : All (λ seat. seat ≡ l.floor.settings.now) l.seats.items;
 }

@@ -6,5 +6,5 @@ pub token_count-tokens-requires : goal.token_count-tokens-requires
 token_count-tokens-requires c =
     let rows = c.requires.rows in
     let same = ap length (c.rows_in.ensures _ _ rows.reply_is) in
-    let few = rows_few c.args.settings.now c.args.number c.args.files c.args.rows.now rows in
+    let few = rows_few c.args.settings.now c.args.project.number c.args.project.files c.args.rows.now rows in
     omega (arith, same, few, c.requires.few)

@@ -9,7 +9,7 @@ take_log-requires g c =
     let hub = c.in_ok-made.made.0 in
     let pass = c.in_ok-made.made.1 in
     let made = c.in_ok-made.ensures in
-    let set = c.args.settings.now in
+    let set = c.args.ground.now.settings.now in
     record {
       ready = record { in_range = c.requires.in_range; settings = made.settings ∙ sym c.plain-keyer.ensures; of = made.stands.is };
       nothing = taken_none hub set pass made.stands.is made.stands.caller made.accepts made.room.0 made.settings made.stands.seen;
@@ -27,4 +27,4 @@ pub returns-in-All-clause-log : goal.returns-in-All-clause-log
 returns-in-All-clause-log g c =
     let all = rw c.in-All.is at c.in_ok-taken.ensures.takes in
     IfOk-weaker c.serve_taken.result _ _
-    (λ by ends. ends_kept _ g.S.Source g.K.Sink c.args.settings.now c.args.source.now c.take_log.new.source c.args.sink.now c.serve_taken.new.sink c.take_log.new.taker c.in-All.unclosed c.in-All.torn all by (ends all.has.changes all.has.has)) c.serve_taken.ensures.ends
+    (λ by ends. ends_kept _ g.S.Source g.K.Sink c.args.ground.now.settings.now c.args.source.now c.take_log.new.source c.args.sink.now c.serve_taken.new.sink c.take_log.new.taker c.in-All.unclosed c.in-All.torn all by (ends all.has.changes all.has.has)) c.serve_taken.ensures.ends

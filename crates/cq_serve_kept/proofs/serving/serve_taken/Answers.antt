@@ -15,9 +15,9 @@ use Rattle.cq_serve_kept.proofs.serving.serve_taken.Goals as goal
 pub passes_of-requires : goal.passes_of-requires
 passes_of-requires g c =
     let hub = c.args.hub.now in
-    let p = c.args.pass in
+    let p = c.args.log.pass in
     let (changes, has) = c.requires.taken in
-    let left = room_left hub c.args.settings.now changes p has in
+    let left = room_left hub c.args.ground.now.settings.now changes p has in
     record {
       idle = record { of = has.of; closed = subst (λ n. view_of (state_of hub p.seen) n ≡ None) (sym has.caller) has.ease.closed };
       room = let room = c.requires.room in omega (arith, left, room);
@@ -26,7 +26,7 @@ passes_of-requires g c =
 pub passes_of-2-requires : goal.passes_of-2-requires
 passes_of-2-requires g c =
     let (changes, has) = c.requires.taken in
-    let left = room_left c.args.hub.now c.args.settings.now changes c.args.pass has in
+    let left = room_left c.args.hub.now c.args.ground.now.settings.now changes c.args.log.pass has in
     let room = c.requires.room in
     let first = c.in_ok-passes_of.ensures.room in
     record { idle = c.in_ok-passes_of.ensures.idle; room = omega (arith, left, room, first) }
@@ -34,7 +34,7 @@ passes_of-2-requires g c =
 pub split_pass-requires : goal.split_pass-requires
 split_pass-requires g c =
     let (changes, has) = c.requires.taken in
-    let left = room_left c.args.hub.now c.args.settings.now changes c.args.pass has in
+    let left = room_left c.args.hub.now c.args.ground.now.settings.now changes c.args.log.pass has in
     let room = c.requires.room in
     let first = c.in_ok-passes_of.ensures.room in
     let second = c.in_ok-passes_of-2.ensures.room in
@@ -43,17 +43,17 @@ split_pass-requires g c =
 pub returns-in-Err-mend-clause-ends : goal.returns-in-Err-mend-clause-ends
 returns-in-Err-mend-clause-ends g c = λ changes has.
     let (front, more, parts, sent) = c.in-Err-mend.ensures.bytes in
-    mends_front c.args.hub.now c.args.settings.now changes c.args.pass has g.K.Sink c.args.sink.now c.mend.new.sink (mending c.args.unclosed c.args.torn) front more parts sent c.in-Err-mend.ensures.cause.failed
+    mends_front c.args.hub.now c.args.ground.now.settings.now changes c.args.log.pass has g.K.Sink c.args.sink.now c.mend.new.sink (mending c.args.log.unclosed c.args.log.torn) front more parts sent c.in-Err-mend.ensures.cause.failed
 
 pub serve_logging-requires : goal.serve_logging-requires
 serve_logging-requires g c =
     let hub = c.args.hub.now in
-    let p = c.args.pass in
+    let p = c.args.log.pass in
     let second : BoardPass = c.passes_of-2.new.pass in
     let q : BoardPass = c.split_pass.new.pass in
     let split = c.split_pass.ensures in
     let (changes, has) = c.requires.taken in
-    let left = room_left hub c.args.settings.now changes p has in
+    let left = room_left hub c.args.ground.now.settings.now changes p has in
     let room = c.requires.room in
     let one = c.in_ok-passes_of.ensures in
     let two = c.in_ok-passes_of-2.ensures in
@@ -64,7 +64,7 @@ serve_logging-requires g c =
     record {
       in_range = c.requires.in_range;
       settings = has.settings;
-      first = first_taken hub c.args.settings.now changes p has q split.of.0 (ap (λ (x : BoardPass). by_of x) split.same ∙ (two.caller ∙ one.caller));
+      first = first_taken hub c.args.ground.now.settings.now changes p has q split.of.0 (ap (λ (x : BoardPass). by_of x) split.same ∙ (two.caller ∙ one.caller));
       workers = one.each;
       sessions = two.each;
       own = child_idle hub second c.split_pass.result split.child split.of.1 two.idle (omega (arith, left, room, room_one, room_two));
@@ -73,15 +73,15 @@ serve_logging-requires g c =
 
 pub returns-clause-ends : goal.returns-clause-ends
 returns-clause-ends g c =
-    let set = c.args.settings.now in
+    let set = c.args.ground.now.settings.now in
     let old = c.args.sink.now in
     let mid = c.mend.new.sink in
     let now = c.serve_logging.new.sink in
     let one = c.in_ok-passes_of.ensures in
     let two = c.in_ok-passes_of-2.ensures in
-    let same : accepted c.split_pass.new.pass.seen ≡ accepted c.args.pass.seen = ap (λ (x : BoardPass). accepted x.seen) c.split_pass.ensures.same ∙ ap accepted (two.seen ∙ one.seen) in
+    let same : accepted c.split_pass.new.pass.seen ≡ accepted c.args.log.pass.seen = ap (λ (x : BoardPass). accepted x.seen) c.split_pass.ensures.same ∙ ap accepted (two.seen ∙ one.seen) in
     IfOk-weaker c.serve_logging.result _ _
     (λ by served changes has.
-    ends_mended g.K.Sink set changes old mid now (mending c.args.unclosed c.args.torn) c.in-Ok-mend.ensures.bytes c.in-Ok-mend.ensures.cause.kept by
+    ends_mended g.K.Sink set changes old mid now (mending c.args.log.unclosed c.args.log.torn) c.in-Ok-mend.ensures.bytes c.in-Ok-mend.ensures.cause.kept by
     (subst (λ (cs : List Change). EndsServed g.K.Sink set [] cs mid now by) (same ∙ has.accepts) served))
     c.serve_logging.ensures.ends

@@ -1,9 +1,8 @@
-use Rattle.std.proofs.Common.{◌≡◌, rules, subst}
-use Rattle.cq_board.specs.declared.answers.Refused.{Refused}
-use Rattle.cq_board.specs.declared.answers.Refused.TheVariants as refused
+use Rattle.std.proofs.Common.{◌≡◌, rules, subst, sym}
 use Rattle.cq_talk.specs.declared.unkept.Unkept.{Unkept}
 use Rattle.cq_talk.specs.declared.unkept.Unkept.TheVariants as unkept
 use Rattle.cq_session.specs.Keeping.{RefusesKept}
+use Rattle.cq_session.specs.Passes.{HasChanged}
 use Rattle.cq_talk.proofs.Changing.{accepted_row, refused_row}
 use Rattle.cq_talk.proofs.Leading.{lead_accepted, lead_none}
 use Rattle.cq_session.proofs.answering.change_reply.Goals as goal
@@ -13,29 +12,17 @@ returns-in-Ok-clause-replies g c = λ by h stands closed always.
     let call = c.in-Ok.ensures.accepted by h stands in
     lead_accepted _ _ _ by _ _ _ h (g.P.Keeper.acceptor c.args.server.now.keeper.now by) c.args.change _ _ call closed (λ others says. accepted_row _ _ g.H.Hub.alone by h call.mid others (g.P.Keeper.acceptor c.args.server.now.keeper.now by) c.args.change c.in-Ok.number says)
 
-pub returns-in-Err-Refused-Absent-clause-replies : goal.returns-in-Err-Refused-Absent-clause-replies
-returns-in-Err-Refused-Absent-clause-replies g c = λ by h stands closed always.
-    let is : c.in-Err-Refused-Absent.field-0 ≡ unkept.Refused refused.Absent = search rules in
-    let call = (subst (λ (u : Unkept). RefusesKept g.H.Hub c.args.server.now.hub.now c.args.pass.now c.accept.new.pass c.args.change u) is c.in-Err-Refused-Absent.ensures.refused) by h stands in
-    lead_none _ _ _ by _ _ _ h _ _ call closed (λ others says. refused_row _ _ g.H.Hub.alone by h call.mid others (g.P.Keeper.acceptor c.args.server.now.keeper.now by) c.args.change refused.Absent (λ e. absurd (cc)) says)
-
-pub returns-in-Err-Refused-FullChanges-clause-replies : goal.returns-in-Err-Refused-FullChanges-clause-replies
-returns-in-Err-Refused-FullChanges-clause-replies g c = λ by h stands closed always.
-    let is : c.in-Err-Refused-FullChanges.field-0 ≡ unkept.Refused refused.FullChanges = search rules in
-    let call = (subst (λ (u : Unkept). RefusesKept g.H.Hub c.args.server.now.hub.now c.args.pass.now c.accept.new.pass c.args.change u) is c.in-Err-Refused-FullChanges.ensures.refused) by h stands in
-    lead_none _ _ _ by _ _ _ h _ _ call closed (λ others says. refused_row _ _ g.H.Hub.alone by h call.mid others (g.P.Keeper.acceptor c.args.server.now.keeper.now by) c.args.change refused.FullChanges (λ e. absurd (cc)) says)
-
-pub returns-in-Err-Refused-FullText-clause-replies : goal.returns-in-Err-Refused-FullText-clause-replies
-returns-in-Err-Refused-FullText-clause-replies g c = λ by h stands closed always.
-    let is : c.in-Err-Refused-FullText.field-0 ≡ unkept.Refused refused.FullText = search rules in
-    let call = (subst (λ (u : Unkept). RefusesKept g.H.Hub c.args.server.now.hub.now c.args.pass.now c.accept.new.pass c.args.change u) is c.in-Err-Refused-FullText.ensures.refused) by h stands in
-    lead_none _ _ _ by _ _ _ h _ _ call closed (λ others says. refused_row _ _ g.H.Hub.alone by h call.mid others (g.P.Keeper.acceptor c.args.server.now.keeper.now by) c.args.change refused.FullText (λ e. absurd (cc)) says)
-
-pub returns-in-Err-Refused-Memory-clause-refused : goal.returns-in-Err-Refused-Memory-clause-refused
-returns-in-Err-Refused-Memory-clause-refused g c = λ by h stands closed always.
-    let is : c.in-Err-Refused-Memory.field-0 ≡ unkept.Refused refused.Memory = search rules in
-    let call = (subst (λ (u : Unkept). RefusesKept g.H.Hub c.args.server.now.hub.now c.args.pass.now c.accept.new.pass c.args.change u) is c.in-Err-Refused-Memory.ensures.refused) by h stands in
+pub returns-in-Memory-clause-refused : goal.returns-in-Memory-clause-refused
+returns-in-Memory-clause-refused g c = λ by h stands closed always.
+    let call = (rw c.in-Err-Refused.field-0-is at c.in-Err-Refused.ensures.refused) by h stands in
     lead_none _ _ _ by _ _ _ h _ _ call closed (λ others says. others)
+
+pub returns-in_default-clause-replies : goal.returns-in_default-clause-replies
+returns-in_default-clause-replies g c =
+    let acceptor = g.P.Keeper.acceptor c.args.server.now.keeper.now in
+    subst (HasChanged g.H.Hub c.args.server.now.hub.now c.args.pass.now c.accept.new.pass acceptor c.args.change) (sym c.cause_told.ensures.reply) (λ by h stands closed always.
+    let call = (rw c.in-Err-Refused.field-0-is at c.in-Err-Refused.ensures.refused) by h stands in
+    lead_none _ _ _ by _ _ _ h _ _ call closed (λ others says. refused_row _ _ g.H.Hub.alone by h call.mid others (acceptor by) c.args.change c.in-Err-Refused.cause c.in_default.not-Memory says))
 
 pub returns-in-Err-Broken-clause-broken : goal.returns-in-Err-Broken-clause-broken
 returns-in-Err-Broken-clause-broken g c =

@@ -1,4 +1,7 @@
-use Rattle.std.proofs.Common.{ℕ, List, refl, ap, sym, subst, inl, inr}
+use Rattle.std.proofs.Common.{ℕ, List, rules, refl, ap, sym, subst, subst₂, inl, inr}
+use Rattle.cq_base.specs.declared.settings.Settings.{Settings}
+use Rattle.cq_lines.proofs.Serving.{serves_as}
+use Rattle.cq_tokfile.specs.declared.snapshot.Snapshot.{Snapshot}
 use Rattle.cq_tokask.proofs.Coming.{on_err}
 use Rattle.cq_tokask.proofs.Fronts.{framed_alone, none_behind_file, other_is_no_file, framed_is_no_file, told_of, of_known}
 use Rattle.cq_tokask.specs.Kept.{BeginsWithNoFile}
@@ -26,11 +29,10 @@ returns-in-Other-clause-asks g c =
     let other = rw c.in-Other.is at c.in_ok-bytes.ensures.takes in
     (of_known (g.S.Source.rest c.args.source.now) _ _ (other_is_no_file c.args.keyer.now.settings) other.0, other.1, refl)
 
-pub ask_lines-end-requires-clause-sound : goal.ask_lines-end-requires-clause-sound
-ask_lines-end-requires-clause-sound g c κs lives = let is = rw c.in-Some.is at c.in_ok-found.ensures in is.sound
-
-pub ask_lines-end-requires-clause-loaded : goal.ask_lines-end-requires-clause-loaded
-ask_lines-end-requires-clause-loaded g c κs lives = c.in_ok-loaded.ensures.of
+pub serve_lines-end-requires-clause-ready : goal.serve_lines-end-requires-clause-ready
+serve_lines-end-requires-clause-ready g c =
+    let is = rw c.in-Some.is at c.in_ok-found.ensures in
+    (search rules, c.requires.in_range, is.sound, c.in_ok-loaded.ensures.of)
 
 pub returns-in_default-clause-asks : goal.returns-in_default-clause-asks
 returns-in_default-clause-asks g c =
@@ -46,6 +48,8 @@ pub returns-clause-asks : goal.returns-clause-asks
 returns-clause-asks g c =
     let taken = rw c.in-Framed.is at c.in_ok-bytes.ensures.takes in
     let is = rw c.in-Some.is at c.in_ok-found.ensures in
+    let serves = serves_as line_of _ (AnswersLines c.in-Some.snapshot c.args.keyer.now.settings) (λ lines replies is. subst₂ (λ (s : Snapshot g.row.L.Denot) (set : Settings). AnswersLines s set lines replies) is.1 is.2 is.0) _ _ _ _ _ _
+    (c.serve_lines-end.ensures.served tt (tt, refl, refl)) in
     inr (
       record {
         snapshot = c.in-Some.snapshot;
@@ -53,9 +57,9 @@ returns-clause-asks g c =
         is_file = subst (λ (bytes : List ℕ). IsTokenFile c.args.keyer.now.settings c.in-Some.snapshot bytes) c.deref.ensures.value is;
         behind = g.S.Source.rest c.take_front.new.source;
         taken = taken.1;
-        serves = subst (λ (n : ℕ). Serves line_of (AnswersLines c.in-Some.snapshot c.args.keyer.now.settings) n (g.S.Source.rest c.take_front.new.source) (g.S.Source.rest c.ask_lines-end.new.source) (g.K.Sink.written c.args.sink.now) (g.K.Sink.written c.ask_lines-end.new.sink) c.ask_lines-end.result) (ap (λ (h : Held). h.limit) c.in_ok-lines.ensures) c.ask_lines-end.ensures.served;
+        serves = subst (λ (n : ℕ). Serves line_of (AnswersLines c.in-Some.snapshot c.args.keyer.now.settings) n (g.S.Source.rest c.take_front.new.source) (g.S.Source.rest c.serve_lines-end.new.source) (g.K.Sink.written c.args.sink.now) (g.K.Sink.written c.serve_lines-end.new.sink) c.serve_lines-end.result) (ap (λ (h : Held). h.limit) c.in_ok-lines.ensures) serves;
       },
-      subst (λ (n : ℕ). HasEndCause n (g.S.Source.faults c.ask_lines-end.new.source) (g.K.Sink.faults c.args.sink.now) (g.K.Sink.faults c.ask_lines-end.new.sink) c.ask_lines-end.result) taken.2 c.ask_lines-end.ensures.cause,
+      subst (λ (n : ℕ). HasEndCause n (g.S.Source.faults c.serve_lines-end.new.source) (g.K.Sink.faults c.args.sink.now) (g.K.Sink.faults c.serve_lines-end.new.sink) c.serve_lines-end.result) taken.2 c.serve_lines-end.ensures.cause,
     )
 
 pub returns-in_err-bytes-clause-no_line : goal.returns-in_err-bytes-clause-no_line

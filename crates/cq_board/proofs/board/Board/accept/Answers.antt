@@ -21,19 +21,19 @@ use Rattle.cq_board.proofs.board.Board.accept.Goals as goal
 pub accept-requires : goal.accept-requires
 accept-requires g c =
     let a : Accepted = c.self.inside.changes in
-    causes a.settings (state_from a.slots 0 a.floor []) (change_of c.in_ok-change.change) (sym c.refusal.ensures ∙ c.in_default.is)
+    record { allowed = causes a.settings (state_from a.slots 0 a.floor []) (change_of c.in_ok-change.change) (sym c.refusal.ensures ∙ c.in_default.is); text = c.in_ok-change.ensures.text }
 
 pub invariant_of-self-2 : goal.invariant_of-self-2
 invariant_of-self-2 g c =
     let a : Accepted = c.self.inside.changes in
     let allowed : refusal_of a.settings (state_from a.slots 0 a.floor []) (change_of c.in_ok-change.change) ≡ None = sym c.refusal.ensures ∙ c.in_default.is in
     subst (λ (b : Accepted). BoardOk (g.W.Indexed.IsWorkOf b.settings) b c.note_undone.new.undone c.self.inside.free c.self.inside.published c.self.inside.listed (arc_value c.self.inside.listing) c.self.inside.views.items) (sym c.in-Ok.ensures.more)
-    (board_accepted (g.W.Indexed.IsWorkOf c.self.inside.changes.settings) c.self.inside.changes.settings c.self.inside.changes.slots c.self.inside.changes.floor c.self.inside.undone c.self.inside.free c.self.inside.published c.self.inside.listed (arc_value c.self.inside.listing) c.self.inside.views.items c.self.invariant (change_of c.in_ok-change.change) c.note_undone.new.undone (subst IsSoundChange (sym c.in_ok-change.ensures) c.requires.sound) allowed c.in_ok-note_undone.ensures.more)
+    (board_accepted (g.W.Indexed.IsWorkOf c.self.inside.changes.settings) c.self.inside.changes.settings c.self.inside.changes.slots c.self.inside.changes.floor c.self.inside.undone c.self.inside.free c.self.inside.published c.self.inside.listed (arc_value c.self.inside.listing) c.self.inside.views.items c.self.invariant (change_of c.in_ok-change.change) c.note_undone.new.undone (subst IsSoundChange (sym c.in_ok-change.ensures.change) c.requires.sound) allowed c.in_ok-note_undone.ensures.more)
 
 pub returns-clause-adds : goal.returns-clause-adds
 returns-clause-adds g c =
     let a : Accepted = c.self.inside.changes in
-    let same : change_of c.in_ok-change.change ≡ c.args.change = c.in_ok-change.ensures in
+    let same : change_of c.in_ok-change.change ≡ c.args.change = c.in_ok-change.ensures.change in
     let allowed : refusal_of a.settings (state_from a.slots 0 a.floor []) c.args.change ≡ None = ap (refusal_of a.settings (state_from a.slots 0 a.floor [])) (sym same) ∙ sym c.refusal.ensures ∙ c.in_default.is in
     Adds_from a.settings (state_from c.self.inside.changes.slots c.self.inside.published c.self.inside.changes.floor c.self.inside.views.items) _ c.self.inside.events _ c.args.self.now _ (event.Accept c.args.by c.args.change) c.self.view_is
     (ap (λ (b : Accepted). let x : BoardState = record { settings = b.settings; state = state_from b.slots c.self.inside.published b.floor c.self.inside.views.items; events = (c.self.inside.events + 1) % 2 ^ 64 } in x) c.in-Ok.ensures.more)

@@ -1,13 +1,21 @@
-use Rattle.std.proofs.Common.{sym, ap, subst, arith}
+use Rattle.std.proofs.Common.{refl, sym, ap, ◌∙◌, subst, arith}
+use Rattle.cq_history.specs.Changes.{is_put}
 use Rattle.cq_history.specs.State.{Slot, IsAccepted}
 use Rattle.cq_base.specs.Changes.{IsSoundChange}
-use Rattle.cq_kept.specs.Slots.{change_of, state_from}
+use Rattle.cq_kept.specs.Slots.{slot_at, change_of, state_from}
 use Rattle.cq_board.specs.Stands.{BoardState}
+use Rattle.cq_board.proofs.SlotLists.{undone_is_put}
 use Rattle.cq_board.proofs.Sounding.{slot_sound, job_text}
 use Rattle.cq_board.proofs.board.Board.job.Goals as goal
 
 pub undone_at-requires : goal.undone_at-requires
 undone_at-requires g c = omega (arith, c.self.invariant.in_order)
+
+pub job_of-requires : goal.job_of-requires
+job_of-requires g c = record {
+  put = ap (λ (s : Slot). is_put s.change) c.in-Some.ensures.slot ∙ undone_is_put (slot_at c.self.inside.changes.slots c.args.change) (c.in-Some.ensures.some.0 refl).1;
+  text = c.in-Some.ensures.text;
+}
 
 pub returns-in_ok-job_of-in-Some-clause-text : goal.returns-in_ok-job_of-in-Some-clause-text
 returns-in_ok-job_of-in-Some-clause-text g c =

@@ -31,6 +31,7 @@ job_at-requires g c =
     record {
       held = undone_kept slots c.self.inside.changes.floor (i + 1) (omega (arith, c.self.invariant.in_order)) undone;
       put = free_is_put (slot_at slots (i + 1)) free;
+      undone = free_not_done (slot_at slots (i + 1)) free;
     }
 
 pub hold-requires : goal.hold-requires

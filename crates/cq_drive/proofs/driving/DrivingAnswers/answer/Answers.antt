@@ -13,7 +13,7 @@ returns-clause-sent g c = λ from first lines outcomes so.
         record {
           after = comes.after;
           stands = comes.stands;
-          comes = come_more c.args.self.now.keyer.now.settings from was.after comes.after lines outcomes c.args.line.now o (inr (c.requires.short, is)) was.comes;
+          comes = come_more c.args.self.now.driver.now.keyer.now.settings from was.after comes.after lines outcomes c.args.line.now o (inr (c.requires.short, is)) was.comes;
         },
         so.1,
       ),

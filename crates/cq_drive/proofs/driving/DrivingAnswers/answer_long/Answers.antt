@@ -13,7 +13,7 @@ returns-clause-sent g c = λ line long from first lines outcomes so.
         record {
           after = was.after;
           stands = was.stands;
-          comes = come_more c.args.self.now.keyer.now.settings from was.after was.after lines outcomes line (outcome.Reply reply.Long) (inl (long, (refl, refl))) was.comes;
+          comes = come_more c.args.self.now.driver.now.keyer.now.settings from was.after was.after lines outcomes line (outcome.Reply reply.Long) (inl (long, (refl, refl))) was.comes;
         },
         so.1,
       ),

@@ -23,10 +23,10 @@ invariant_of-self-2 g c =
     let s = c.self.inside in
     let IsWork = g.W.Indexed.IsWorkOf s.settings in
     let k : Kept g.row.W.Denot = record { change = c.in_ok-same.same; work = None; holder = None } in
-    let same : change_of k.change ≡ change_of c.args.change = c.in_ok-same.ensures in
+    let same : change_of k.change ≡ change_of c.args.change = c.in_ok-same.ensures.change in
     let adds = subst (λ (d : Change). AddsPlace (s.accepted + 1) d s.there c.note.new.there) (sym same) c.in-Ok.ensures.more in
-    let allowed : MayAccept (accepted_from s.settings s.past.slots s.floor) (change_of c.args.change) = subst (λ (a : Accepted). MayAccept a (change_of c.args.change)) (sym c.self.view_is) c.requires in
-    let held = held_more IsWork s.settings s.past.slots s.accepted s.floor s.kept s.there s.text_bytes c.self.invariant k refl tt c.insert.new.kept c.in_ok-insert.ensures.more c.note.new.there adds (subst (λ (d : Change). MayAccept (accepted_from s.settings s.past.slots s.floor) d) (sym same) allowed) in
+    let allowed : MayAccept (accepted_from s.settings s.past.slots s.floor) (change_of c.args.change) = subst (λ (a : Accepted). MayAccept a (change_of c.args.change)) (sym c.self.view_is) c.requires.allowed in
+    let held = held_more IsWork s.settings s.past.slots s.accepted s.floor s.kept s.there s.text_bytes c.self.invariant k refl (c.in_ok-same.ensures.text ∙ c.requires.text) c.insert.new.kept c.in_ok-insert.ensures.more c.note.new.there adds (subst (λ (d : Change). MayAccept (accepted_from s.settings s.past.slots s.floor) d) (sym same) allowed) in
     let here = subst (λ (d : Change). IsHeld IsWork s.settings (s.past.slots ++ new_slot d ∷ []) (s.accepted + 1) s.floor c.insert.new.kept c.note.new.there (s.text_bytes + text_len d)) same held in
     subst (λ (slots : List Slot). IsHeld IsWork s.settings slots (s.accepted + 1) s.floor c.insert.new.kept c.note.new.there (s.text_bytes + c.text_len.result)) (sym c.accepted-self-inside.ensures)
     (subst (λ (n : ℕ). IsHeld IsWork s.settings (s.past.slots ++ new_slot (change_of c.args.change) ∷ []) (s.accepted + 1) s.floor c.insert.new.kept c.note.new.there (s.text_bytes + n)) (sym c.text_len.ensures) here)
@@ -55,7 +55,7 @@ pub overflow_add-self : goal.overflow_add-self
 overflow_add-self g c =
     let s = c.self.inside in
     let IsWork = g.W.Indexed.IsWorkOf s.settings in
-    let allowed : MayAccept (accepted_from s.settings s.past.slots s.floor) (change_of c.args.change) = subst (λ (a : Accepted). MayAccept a (change_of c.args.change)) (sym c.self.view_is) c.requires in
+    let allowed : MayAccept (accepted_from s.settings s.past.slots s.floor) (change_of c.args.change) = subst (λ (a : Accepted). MayAccept a (change_of c.args.change)) (sym c.self.view_is) c.requires.allowed in
     let fits = long_fits IsWork s.settings s.past.slots s.accepted s.floor s.kept s.there s.text_bytes c.self.invariant (change_of c.args.change) allowed.2 in
     let few = c.self.ranges in
     omega (arith, fits, few, c.text_len.ensures)
