@@ -19,7 +19,7 @@ returns c = record {
       let said = change_of c.in_ok-change.change in
       let old = c.args.self.now in
       let at = c.set_floor.new.self in
-      subst (λ (change : Change). (is_accepted set changes change ≡ true) × Has c.ease.new.self set (own ++ c.args.line.now ∷ []) (changes ++ change ∷ [])) c.in_ok-change.ensures (
+      subst (λ (change : Change). (is_accepted set changes change ≡ true) × Has c.ease.new.self set (own ++ c.args.line.now ∷ []) (changes ++ change ∷ [])) c.in_ok-change.ensures.change (
         none_against set own changes c.args.line.now said old c.ease.new.self has (sym c.is_absent.ensures ∙ c.if-is_absent.false) (sym c.is_full.ensures ∙ c.if-is_full.false) (sym c.is_long.ensures ∙ c.if-is_long.false),
         has_one_more set own changes c.args.line.now said old c.ease.new.self has c.insert.new.self c.in_ok-line.line at (c.len-number.result + 1) (ap (λ n. n + 1) c.len-number.ensures) c.in_ok-insert.ensures.updates.1 c.in_ok-line.ensures c.in_ok-insert.ensures.updates.2
             (c.set_floor.ensures ∙ ap (λ (a : Accepted). accepted_from a.settings a.slots (c.len-number.result + 1)) c.in_ok-accept.ensures.more) c.ease.ensures.same c.ease.ensures.lines,
