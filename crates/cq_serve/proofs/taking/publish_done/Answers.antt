@@ -6,7 +6,7 @@ pub returns-in_default-clause-asks : goal.returns-in_default-clause-asks
 returns-in_default-clause-asks g c = λ by h stands.
     let hub = c.args.server.now.hub.now in
     let still : c.ask.new.pass ≡ c.args.pass.now = search rules in
-    asked_only g.H.Hub hub (g.H.Hub.settings hub) (g.met.H.Hub.lawful hub) by h c.ask-_asked.new.pass _ (c.ask-_asked.ensures.asks by h (subst (λ (p : g.row.H-Pass.Denot). g.H.Hub.Stands hub p by h) (sym still) stands))
+    asked_only g.H.Hub hub (g.H.Hub.settings hub) (g.met.H.Hub.lawful hub) by h c.ask-asked.new.pass _ (c.ask-asked.ensures.asks by h (subst (λ (p : g.row.H-Pass.Denot). g.H.Hub.Stands hub p by h) (sym still) stands))
 
 pub returns-in-Ok-clause-asks : goal.returns-in-Ok-clause-asks
 returns-in-Ok-clause-asks g c = λ by h stands.

@@ -2,8 +2,8 @@ use Rattle.std.proofs.Common.{[]}
 use Rattle.cq_serve_kept.proofs.Lowering.{done_asked, low_then}
 use Rattle.cq_serve_kept.proofs.reloading.Reloaded.ease.Goals as goal
 
-pub advance-_version-requires : goal.advance-_version-requires
-advance-_version-requires g c =
+pub advance-version-requires : goal.advance-version-requires
+advance-version-requires g c =
     let hub = c.args.self.now.hub.now in
     record {
       of = c.ask-asked.ensures.asks.of;
@@ -14,8 +14,8 @@ pub returns-clause-low : goal.returns-clause-low
 returns-clause-low g c = λ set changes is.
     let hub = c.args.self.now.hub.now in
     let (still, done) = c.in_ok-make_works.ensures.done set changes is in
-    low_then hub set changes c.make_works.new.self.pass c.ask-asked.new.pass c.advance-_version.new.pass c.sweep-_floor.new.pass still done c.ask-asked.result c.ask-asked.ensures.asks c.in_ok-_version._version c.in_ok-_version.ensures.published
-    c.sweep-_floor.result c.sweep-_floor.ensures.swept
+    low_then hub set changes c.make_works.new.self.pass c.ask-asked.new.pass c.advance-version.new.pass c.sweep-floor.new.pass still done c.ask-asked.result c.ask-asked.ensures.asks c.in_ok-version.version c.in_ok-version.ensures.published
+    c.sweep-floor.result c.sweep-floor.ensures.swept
 
 pub returns-clause-ready : goal.returns-clause-ready
-returns-clause-ready g c = record { in_range = c.requires.ready.in_range; settings = c.requires.ready.settings; of = c.sweep-_floor.ensures.swept.of }
+returns-clause-ready g c = record { in_range = c.requires.ready.in_range; settings = c.requires.ready.settings; of = c.sweep-floor.ensures.swept.of }

@@ -18,8 +18,8 @@ use Rattle.cq_serve_kept.proofs.reloading.Reloaded.make_works.Goals as goal
 pub works-init : goal.works-init
 works-init g c = record { ready = c.requires.ready; same = (refl, refl); still = λ set changes is. is }
 
-pub finish-_finished-requires : goal.finish-_finished-requires
-finish-_finished-requires g c =
+pub finish-finished-requires : goal.finish-finished-requires
+finish-finished-requires g c =
     let hub = c.args.self.now.hub.now in
     let p = c.works.self.pass in
     let job = c.in-Some.job in
@@ -39,10 +39,10 @@ works-preserved g c =
     let i = c.works.invariant in
     let took = rw c.in-Some.is at c.in_ok-take.ensures.taken in
     record {
-      ready = record { in_range = i.ready.in_range; settings = i.ready.settings; of = c.finish-_finished.ensures.of };
+      ready = record { in_range = i.ready.in_range; settings = i.ready.settings; of = c.finish-finished.ensures.of };
       same = i.same;
       still = λ set changes is.
-          taken_finished hub set changes c.works.self.pass (i.still set changes is) c.take.new.pass c.finish-_finished.new.pass c.in-Some.job.change _ took c.finish-_finished.result c.finish-_finished.ensures.done c.finish-_finished.ensures.already;
+          taken_finished hub set changes c.works.self.pass (i.still set changes is) c.take.new.pass c.finish-finished.new.pass c.in-Some.job.change _ took c.finish-finished.result c.finish-finished.ensures.done c.finish-finished.ensures.already;
     }
 
 pub returns-in_default-clause-done : goal.returns-in_default-clause-done
