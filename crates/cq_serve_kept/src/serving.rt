@@ -119,6 +119,7 @@ fn serve_over_log<
 
 // Serves the doors, and continues the log in the sink, by the pass of the first caller.
 fn serve_logging<
+    's,
     Q: Threads + Wait + Sync,
     L: Ledger + Send + Sync,
     N: LogOf + Send,
@@ -132,7 +133,7 @@ fn serve_logging<
     hub: &Shared<Work<L>, &Q>,
     pass: Pass<Work<L>>,
     passes: Passes<Work<L>>,
-    sink: &mut K,
+    sink: &'s mut K,
     doors: &mut D,
 ) -> Result<Kept, Memory>
     requires in_range { IsInRange ground.now.settings.now }
@@ -151,7 +152,7 @@ fn serve_logging<
     ensures ends { IfOk result
         (EndsServed K.Sink ground.now.settings.now [] (accepted pass.seen) sink.old sink.new) }
 {
-    let log: Log<'_, '_, Q, Work<L>, K, N> = Log::new(ground.rt, sink, pass);
+    let log: Log<'_, 's, Q, Work<L>, K, N> = Log::new(ground.rt, sink, pass);
     let served = serve_over_log(ground, hub, &log, passes, doors)?;
     let (log, _pass) = log.into_log();
     let LineLog { sink, whole } = log;
