@@ -4,24 +4,23 @@ use Rattle.cq_serve_kept.proofs.FirstPass.{taken_none}
 use Rattle.cq_serve_kept.proofs.Took.{ends_kept}
 use Rattle.cq_serve_kept.proofs.serving.serve_kept.Goals as goal
 
-pub take_log-requires : goal.take_log-requires
-take_log-requires g c =
-    let hub = c.in_ok-made.made.0 in
-    let pass = c.in_ok-made.made.1 in
+pub take_log-requires-clause-ready : goal.take_log-requires-clause-ready
+take_log-requires-clause-ready g c =
     let made = c.in_ok-made.ensures in
-    let set = c.args.ground.now.settings.now in
-    record {
-      ready = record { in_range = c.requires.in_range; settings = made.settings ∙ sym c.plain-keyer.ensures; of = made.stands.is };
-      nothing = taken_none hub set pass made.stands.is made.stands.caller made.accepts made.room.0 made.settings made.stands.seen;
-    }
+    record { in_range = c.requires.in_range; settings = made.settings ∙ sym c.plain-keyer.ensures; of = made.stands.is }
+
+pub take_log-requires-clause-nothing : goal.take_log-requires-clause-nothing
+take_log-requires-clause-nothing g c =
+    let made = c.in_ok-made.ensures in
+    taken_none c.in_ok-made.made.0 c.args.ground.now.settings.now c.in_ok-made.made.1 made.stands.is made.stands.caller made.accepts made.room.0 made.settings made.stands.seen
 
 pub returns-in-Failed-clause-log : goal.returns-in-Failed-clause-log
 returns-in-Failed-clause-log g c = (refl, rw c.in-Failed.is at c.in_ok-taken.ensures.cause)
 
-pub serve_taken-requires : goal.serve_taken-requires
-serve_taken-requires g c =
+pub serve_taken-requires-clause-taken : goal.serve_taken-requires-clause-taken
+serve_taken-requires-clause-taken g c κs lives =
     let all = rw c.in-All.is at c.in_ok-taken.ensures.takes in
-    record { taken = (all.has.changes, all.has.has) }
+    (all.has.changes, all.has.has)
 
 pub returns-in-All-clause-log : goal.returns-in-All-clause-log
 returns-in-All-clause-log g c =

@@ -7,10 +7,9 @@ use Rattle.cq_serve_kept.specs.Continued.{ContinuesBroken, ContinuesWhole}
 use Rattle.cq_serve_kept.proofs.Ending.{all_written, log_begins, one_cut_off}
 use Rattle.cq_serve_kept.proofs.serving.serve_logging.Goals as goal
 
-pub new-log-requires : goal.new-log-requires
-new-log-requires g c = record {
-  log = log_begins g.K.Sink g.N.LogOf c.args.hub.now c.requires.cells (accepted c.args.pass.seen) (sym c.requires.before) c.args.sink.now c.args.sink.now (sym c.requires.begun) (sym c.requires.faults) c.args.pass c.requires.first c.requires.before;
-}
+pub new-log-requires-clause-log : goal.new-log-requires-clause-log
+new-log-requires-clause-log g c =
+    log_begins g.K.Sink g.N.LogOf c.args.hub.now c.requires.cells (accepted c.args.pass.seen) (sym c.requires.before) c.args.sink.now c.args.sink.now (sym c.requires.begun) (sym c.requires.faults) c.args.pass c.requires.first c.requires.before
 
 pub returns-then-whole-clause-ends : goal.returns-then-whole-clause-ends
 returns-then-whole-clause-ends g c =

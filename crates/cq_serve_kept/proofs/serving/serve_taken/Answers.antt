@@ -45,31 +45,35 @@ returns-in-Err-mend-clause-ends g c = λ changes has.
     let (front, more, parts, sent) = c.in-Err-mend.ensures.bytes in
     mends_front c.args.hub.now c.args.ground.now.settings.now changes c.args.log.pass has g.K.Sink c.args.sink.now c.mend.new.sink (mending c.args.log.unclosed c.args.log.torn) front more parts sent c.in-Err-mend.ensures.cause.failed
 
-pub serve_logging-requires : goal.serve_logging-requires
-serve_logging-requires g c =
-    let hub = c.args.hub.now in
-    let p = c.args.log.pass in
-    let second : BoardPass = c.passes_of-2.new.pass in
+pub serve_logging-requires-clause-settings : goal.serve_logging-requires-clause-settings
+serve_logging-requires-clause-settings g c κs lives = let (changes, has) = c.requires.taken in has.settings
+
+pub serve_logging-requires-clause-first : goal.serve_logging-requires-clause-first
+serve_logging-requires-clause-first g c κs lives =
     let q : BoardPass = c.split_pass.new.pass in
     let split = c.split_pass.ensures in
     let (changes, has) = c.requires.taken in
-    let left = room_left hub c.args.ground.now.settings.now changes p has in
+    first_taken c.args.hub.now c.args.ground.now.settings.now changes c.args.log.pass has q split.of.0 (ap (λ (x : BoardPass). by_of x) split.same ∙ (c.in_ok-passes_of-2.ensures.caller ∙ c.in_ok-passes_of.ensures.caller))
+
+pub serve_logging-requires-clause-workers : goal.serve_logging-requires-clause-workers
+serve_logging-requires-clause-workers g c κs lives = c.in_ok-passes_of.ensures.each
+
+pub serve_logging-requires-clause-sessions : goal.serve_logging-requires-clause-sessions
+serve_logging-requires-clause-sessions g c κs lives = c.in_ok-passes_of-2.ensures.each
+
+pub serve_logging-requires-clause-own : goal.serve_logging-requires-clause-own
+serve_logging-requires-clause-own g c κs lives =
+    let hub = c.args.hub.now in
+    let split = c.split_pass.ensures in
+    let (changes, has) = c.requires.taken in
+    let left = room_left hub c.args.ground.now.settings.now changes c.args.log.pass has in
     let room = c.requires.room in
-    let one = c.in_ok-passes_of.ensures in
-    let two = c.in_ok-passes_of-2.ensures in
-    let room_one = one.room in
-    let room_two = two.room in
-    let sessions = c.requires.sessions in
-    let number = two.number in
-    record {
-      in_range = c.requires.in_range;
-      settings = has.settings;
-      first = first_taken hub c.args.ground.now.settings.now changes p has q split.of.0 (ap (λ (x : BoardPass). by_of x) split.same ∙ (two.caller ∙ one.caller));
-      workers = one.each;
-      sessions = two.each;
-      own = child_idle hub second c.split_pass.result split.child split.of.1 two.idle (omega (arith, left, room, room_one, room_two));
-      few = omega (arith, number, sessions);
-    }
+    let room_one = c.in_ok-passes_of.ensures.room in
+    let room_two = c.in_ok-passes_of-2.ensures.room in
+    child_idle hub c.passes_of-2.new.pass c.split_pass.result split.child split.of.1 c.in_ok-passes_of-2.ensures.idle (omega (arith, left, room, room_one, room_two))
+
+pub serve_logging-requires-clause-few : goal.serve_logging-requires-clause-few
+serve_logging-requires-clause-few g c κs lives = let number = c.in_ok-passes_of-2.ensures.number in let sessions = c.requires.sessions in omega (arith, number, sessions)
 
 pub returns-clause-ends : goal.returns-clause-ends
 returns-clause-ends g c =

@@ -3,8 +3,8 @@ use Rattle.cq_shared.proofs.Calling.{extends}
 use Rattle.cq_serve_kept.proofs.Refusing.{refused_kept}
 use Rattle.cq_serve_kept.proofs.log.LogKeeper.accept.Goals as goal
 
-pub accept-requires : goal.accept-requires
-accept-requires g c = record { of = c.requires.stands.2.is }
+pub accept-requires-clause-of : goal.accept-requires-clause-of
+accept-requires-clause-of g c = c.requires.stands.2.is
 
 pub returns-clause-accepted : goal.returns-clause-accepted
 returns-clause-accepted g c = IfOk-weaker c.accept.result _ _ (λ number call. extends _ _ _ _ _ _ call) c.accept.ensures.accepted
