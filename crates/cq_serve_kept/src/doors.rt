@@ -2,7 +2,7 @@ ghost use Rattle.std.specs.Prelude.{None};
 
 use crate::log::Log;
 use cq_base::Text;
-use cq_io::{Doors, Failed, Sink, Source};
+use cq_io::{Doors, Failed, Sink};
 use cq_keeper::LogOf;
 use cq_shard::Indexed;
 use std::sync::Wait;
