@@ -45,14 +45,14 @@ impl<'a, W: Indexed, K: Sink, N: LogOf> Model for Locked<'a, W, K, N> {
 }
 
 impl<'a, W: Indexed, K: Sink, N: LogOf> Locked<'a, W, K, N> {
-    /// The log that begins with what this sink has, by the pass of the first caller.
-    pub fn new(sink: &'a mut K, pass: Pass<W>) -> Self
-        requires name { sink.ghost_name ≡ N.name }
-        requires log { IsLogOf K.Sink N.LogOf (log_at sink.old true) pass }
-        ensures { result ≡ true }
+    /// This log, with the pass of the first caller.
+    pub fn new(log: LineLog<'a, K>, pass: Pass<W>) -> Self
+        requires name { log.sink.ghost_name ≡ N.name }
+        requires log { IsLogOf K.Sink N.LogOf (log_at log.sink.now log.whole) pass }
+        ensures { result ≡ log.entry.whole }
     {
         Locked {
-            log: LineLog { sink, whole: true },
+            log,
             pass,
             of: PhantomData,
         }

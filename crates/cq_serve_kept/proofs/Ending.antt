@@ -1,5 +1,5 @@
 -- What a server has written when its log comes out of the lock.
-use Rattle.std.proofs.Common.{◌≡◌, ℕ, true, false, List, [], ◌∷◌, ◌++◌, refl, sym, ap, ◌∙◌, subst, append-nil, append_assoc, true≢false}
+use Rattle.std.proofs.Common.{◌≡◌, ℕ, Bool, true, false, List, [], ◌∷◌, ◌++◌, refl, sym, ap, ◌∙◌, subst, append-nil, append_assoc, true≢false}
 use Rattle.std.proofs.KnownBytes.{Appends-nil}
 use Rattle.std.specs.Prelude.{flat_map, Option}
 use Rattle.std.proofs.lemmas.Grind.{flat_map-append}
@@ -20,7 +20,7 @@ use Rattle.cq_keeper.specs.declared.naming.LogOf as log_of
 use Rattle.cq_lines.specs.Pieces.{ended}
 use Rattle.cq_shared.specs.SharedPasses.{callers_of, cells_of, settings_of}
 use Rattle.cq_shared.specs.declared.shared.Shared.{Shared}
-use Rattle.cq_serve_kept.specs.Continued.{ContinuesBroken, ContinuesWhole}
+use Rattle.cq_serve_kept.specs.Continued.{ContinuesBroken, ContinuesWhole, EndsLogged}
 use Rattle.cq_serve_kept.proofs.Continuing.{continue_with}
 
 say_last : (chunk : ℕ) (lines : List (List ℕ)) (changes : List Change) (line : List ℕ) (change : Change) → SayAll chunk lines changes → Says chunk line change → SayAll chunk (lines ++ line ∷ []) (changes ++ change ∷ [])
@@ -53,7 +53,7 @@ module _ {K N W R : Type 0} (onto : sink.Ghosts K) (of : log_of.Ghosts N) (hub :
   }
 
   -- each line was written whole
-  pub all_written : IsLogOf onto of (log_at written_now true) p → ContinuesWhole onto set [] before written written_now
+  all_written : IsLogOf onto of (log_at written_now true) p → ContinuesWhole onto set [] before written written_now
   all_written is =
       let has = (is.whole refl).0 in
       let law = subst (λ cells. Lawful cells.about.settings cells.about.callers p.seen) (sym here) is.cells.law.lawful in
@@ -75,7 +75,7 @@ module _ {K N W R : Type 0} (onto : sink.Ghosts K) (of : log_of.Ghosts N) (hub :
       )
 
   -- the sink failed at one of them
-  pub one_cut_off : IsLogOf onto of (log_at written_now false) p → ContinuesBroken onto set [] before written written_now
+  one_cut_off : IsLogOf onto of (log_at written_now false) p → ContinuesBroken onto set [] before written written_now
   one_cut_off is =
       let cut = is.cut_off refl in
       let law = subst (λ cells. Lawful cells.about.settings cells.about.callers p.seen) (sym here) is.cells.law.lawful in
@@ -98,3 +98,8 @@ module _ {K N W R : Type 0} (onto : sink.Ghosts K) (of : log_of.Ghosts N) (hub :
         },
         subst (λ (n : ℕ). Rose n (onto.faults written_now)) faults cut.rose,
       )
+
+  -- by whether each was
+  pub ends_logged : (whole : Bool) → IsLogOf onto of (log_at written_now whole) p → EndsLogged onto set [] before written written_now whole
+  ends_logged true is = all_written is
+  ends_logged false is = one_cut_off is

@@ -12,10 +12,8 @@ use Rattle.cq_io.specs.declared.sink.Sink as sink
 use Rattle.cq_keeper.specs.Firsts.{IsFirst}
 use Rattle.cq_shared.specs.SharedPasses.{IsPassOf, callers_of}
 use Rattle.cq_shared.specs.declared.shared.Shared.{Shared}
-use Rattle.cq_serve_kept.specs.Continued.{Continues, ContinuesBroken, ContinuesWhole, EndsServed, EndsTaken}
+use Rattle.cq_serve_kept.specs.Continued.{Continues, ContinuesBroken, ContinuesWhole}
 use Rattle.cq_serve_kept.specs.Reloads.{HasTaken}
-use Rattle.cq_serve_kept.specs.declared.serving.Kept.{Kept}
-use Rattle.cq_serve_kept.specs.declared.serving.Kept.TheVariants as kept
 use Rattle.cq_serve_kept.proofs.FirstPass.{lawful_seen}
 
 module _ {K : Type 0} (onto : sink.Ghosts K) (set : Settings) (before : List Change) (old mid now : K) (mended : List ℕ) (sent : Appends (onto.written old) (onto.written mid) mended) where
@@ -34,20 +32,11 @@ module _ {K : Type 0} (onto : sink.Ghosts K) (set : Settings) (before : List Cha
     accepts = is.accepts;
   }
 
-  whole_mended : ContinuesWhole onto set [] before mid now → ContinuesWhole onto set mended before old now
+  pub whole_mended : ContinuesWhole onto set [] before mid now → ContinuesWhole onto set mended before old now
   whole_mended (is, all) = (continues_mended is, all)
 
-  broken_mended : onto.faults mid ≡ onto.faults old → ContinuesBroken onto set [] before mid now → ContinuesBroken onto set mended before old now
+  pub broken_mended : onto.faults mid ≡ onto.faults old → ContinuesBroken onto set [] before mid now → ContinuesBroken onto set mended before old now
   broken_mended same (is, rose) = (continues_mended is, subst (λ (n : ℕ). Rose n (onto.faults now)) same rose)
-
-  -- it was mended without a fault, and then the server ended so
-  pub ends_mended : onto.faults mid ≡ onto.faults old → (by : Kept) → EndsServed onto set [] before mid now by → EndsTaken onto set mended before old now by
-  ends_mended same (kept.Served served) is = whole_mended is
-  ends_mended same kept.Broken is = broken_mended same is
-  ends_mended same kept.Unbound is = absurd is
-  ends_mended same kept.Refused is = absurd is
-  ends_mended same kept.Spent is = absurd is
-  ends_mended same kept.ReadFault is = absurd is
 
 module _ {W R : Type 0} (hub : Shared W R) (set : Settings) (changes : List Change) (p : BoardPass) (is : HasTaken hub p set changes) where
   -- it could not be mended

@@ -1,5 +1,5 @@
 -- What a server writes that took a log.
-use Rattle.std.specs.Prelude.{◌≡◌, ℕ, List, [], ◌++◌, flat_map, Some}
+use Rattle.std.specs.Prelude.{◌≡◌, ℕ, Bool, true, false, List, [], ◌++◌, flat_map, Some}
 use Rattle.std.specs.Io.KnownBytes.{Appends, Consumes, IsAtEnd}
 use Rattle.cq_base.specs.declared.change.Change.{Change}
 use Rattle.cq_base.specs.declared.settings.Settings.{Settings}
@@ -40,14 +40,10 @@ module _ {K : Type 0} (onto : sink.Ghosts K) (set : Settings) (mended : List ℕ
   abbrev pub ContinuesBroken : Type 0
   ContinuesBroken = Continues × Rose (onto.faults written) (onto.faults written_now)
 
-  -- by how a server ended that had bound its address
-  abbrev pub EndsServed : Kept → Type 0
-  EndsServed (kept.Served served) = ContinuesWhole
-  EndsServed kept.Broken = ContinuesBroken
-  EndsServed kept.Unbound = ⊥
-  EndsServed kept.Refused = ⊥
-  EndsServed kept.Spent = ⊥
-  EndsServed kept.ReadFault = ⊥
+  -- by whether each line was written whole
+  abbrev pub EndsLogged : Bool → Type 0
+  EndsLogged true = ContinuesWhole
+  EndsLogged false = ContinuesBroken
 
   -- by how one ended that took these changes
   abbrev pub EndsTaken : Kept → Type 0

@@ -23,14 +23,14 @@ pub struct Log<'a, 's, Q, W: Indexed, K: Sink, N: LogOf> {
 }
 
 impl<'a, 's, Q: Wait, W: Indexed, K: Sink, N: LogOf> Log<'a, 's, Q, W, K, N> {
-    /// The log that begins with what this sink has, by the pass of the first caller.
-    pub fn new(rt: &'a Q, sink: &'s mut K, pass: Pass<W>) -> Self
-        requires name { sink.ghost_name ≡ N.name }
-        requires log { IsLogOf K.Sink N.LogOf (log_at sink.old true) pass }
+    /// This log, with the pass of the first caller.
+    pub fn new(rt: &'a Q, log: LineLog<'s, K>, pass: Pass<W>) -> Self
+        requires name { log.sink.ghost_name ≡ N.name }
+        requires log { IsLogOf K.Sink N.LogOf (log_at log.sink.now log.whole) pass }
     {
         Log {
             rt,
-            locked: Mutex::new(Locked::new(sink, pass)),
+            locked: Mutex::new(Locked::new(log, pass)),
         }
     }
 

@@ -1,4 +1,4 @@
-ghost use Rattle.std.specs.Prelude.{◌≡◌, ◌≤◌, ◌+◌, List, [], vec_len, All, IfOk, IsSome};
+ghost use Rattle.std.specs.Prelude.{◌≡◌, true, ◌≤◌, ◌+◌, List, [], vec_len, All, IfOk, IsSome};
 ghost use Rattle.cq_base.specs.Settings.{IsInRange};
 ghost use Rattle.cq_base.specs.declared.change.Change.{Change};
 ghost use Rattle.cq_history.specs.State.{accepted};
@@ -7,7 +7,7 @@ ghost use Rattle.cq_listen.specs.Endings.{IsServedWith};
 ghost use Rattle.cq_listen.specs.Seats.{IsIdle};
 ghost use Rattle.cq_log.specs.Mending.{mending};
 ghost use Rattle.cq_shared.specs.SharedPasses.{callers_of, cells_of, settings_of};
-ghost use Rattle.cq_serve_kept.specs.Continued.{EndsKept, EndsServed, EndsTaken};
+ghost use Rattle.cq_serve_kept.specs.Continued.{EndsKept, EndsLogged, EndsTaken};
 ghost use Rattle.cq_serve_kept.specs.Reloads.{HasTaken};
 
 use crate::doors::KeptDoors;
@@ -72,11 +72,6 @@ struct TakenLog<L: Ledger> {
     torn: bool,
 }
 
-// Does nothing: by this use, the borrow checker ties the sink to the parameter that lent it.
-fn take_back<K>(sink: &mut K)
-    ensures { sink.new ≡ sink.old }
-{}
-
 // Serves the doors over a log, until no more connections will come, a call of the doors fails, or a line can't be written.
 fn serve_over_log<
     Q: Threads + Wait + Sync,
@@ -117,7 +112,8 @@ fn serve_over_log<
     serve_over(ground.rt, &floor, passes, &mut kept_doors)
 }
 
-// Serves the doors, and continues the log in the sink, by the pass of the first caller.
+// Serves the doors over a log, by the pass of the first caller, and gives the log back, with the lines of the changes that were
+// accepted.
 fn serve_logging<
     's,
     Q: Threads + Wait + Sync,
@@ -133,9 +129,9 @@ fn serve_logging<
     hub: &Shared<Work<L>, &Q>,
     pass: Pass<Work<L>>,
     passes: Passes<Work<L>>,
-    sink: &'s mut K,
+    log: LineLog<'s, K>,
     doors: &mut D,
-) -> Result<Kept, Memory>
+) -> Result<(Served, LineLog<'s, K>), Memory>
     requires in_range { IsInRange ground.now.settings.now }
     requires settings { settings_of hub.now ≡ ground.now.settings.now }
     requires first { IsFirst hub.now pass }
@@ -144,24 +140,26 @@ fn serve_logging<
     requires own { IsIdle hub.now passes.own }
     requires few { vec_len passes.sessions ≤ 64 }
     requires bound { IsSome (D.bound doors.old) }
-    requires name { sink.ghost_name ≡ N.name }
+    requires name { log.sink.ghost_name ≡ N.name }
+    requires whole { log.whole ≡ true }
     requires cells { cells_of hub.now ≡ N.cells }
-    requires begun { K.written sink.old ≡ N.begun }
+    requires begun { K.written log.sink.now ≡ N.begun }
     requires before { accepted pass.seen ≡ N.before }
-    requires faults { K.faults sink.old ≡ N.faults }
-    ensures ends { IfOk result
-        (EndsServed K.Sink ground.now.settings.now [] (accepted pass.seen) sink.old sink.new) }
+    requires faults { K.faults log.sink.now ≡ N.faults }
+    ensures name { IfOk result (λ over. over.1.sink.ghost_name ≡ N.name) }
+    ensures ends { IfOk result (λ over. EndsLogged K.Sink ground.now.settings.now [] (accepted pass.seen)
+        log.entry.sink.now over.1.sink.now over.1.whole) }
 {
-    let log: Log<'_, 's, Q, Work<L>, K, N> = Log::new(ground.rt, sink, pass);
+    let log: Log<'_, 's, Q, Work<L>, K, N> = Log::new(ground.rt, log, pass);
     let served = serve_over_log(ground, hub, &log, passes, doors)?;
     let (log, _pass) = log.into_log();
-    let LineLog { sink, whole } = log;
-    take_back(sink);
-    if whole {
-        return Ok(Kept::Served(served));
-    }
-    Ok(Kept::Broken)
+    Ok((served, log))
 }
+
+// Does nothing: by this use, the borrow checker ties the sink to the parameter that lent it.
+fn take_back<K>(sink: &mut K)
+    ensures { sink.new ≡ sink.old }
+{}
 
 // Serves the doors of an address, once the log is taken, and mends its end before anything else is written.
 fn serve_taken<
@@ -176,23 +174,23 @@ fn serve_taken<
     ground: &Ground<'_, Q, L, G>,
     hub: &Shared<Work<L>, &Q>,
     place: Place,
-    log: TakenLog<L>,
+    taken: TakenLog<L>,
     sink: &mut K,
     doors: &mut D,
 ) -> Result<Kept, Memory>
     requires in_range { IsInRange ground.now.settings.now }
-    requires taken { (changes : List Change) × HasTaken hub.now log.pass ground.now.settings.now changes }
+    requires taken { (changes : List Change) × HasTaken hub.now taken.pass ground.now.settings.now changes }
     requires room { place.workers + place.sessions + 2 ≤ callers_of hub.now }
     requires workers { place.workers ≤ 64 }
     requires sessions { place.sessions ≤ 64 }
-    ensures ends { IfOk result (λ by. (changes : List Change) → HasTaken hub.now log.pass ground.now.settings.now changes
-        → EndsTaken K.Sink ground.now.settings.now (mending log.unclosed log.torn) changes sink.old sink.new by) }
+    ensures ends { IfOk result (λ by. (changes : List Change) → HasTaken hub.now taken.pass ground.now.settings.now changes
+        → EndsTaken K.Sink ground.now.settings.now (mending taken.unclosed taken.torn) changes sink.old sink.new by) }
 {
     let TakenLog {
         pass,
         unclosed,
         torn,
-    } = log;
+    } = taken;
     let Place {
         address,
         workers,
@@ -212,7 +210,15 @@ fn serve_taken<
         Ok(()) => {}
         Err(Failed) => return Ok(Kept::Broken),
     }
-    serve_logging::<Q, L, Brand, K, I, O, D, G>(ground, hub, pass, passes, sink, doors)
+    let log = LineLog { sink, whole: true };
+    let over = serve_logging::<Q, L, Brand, K, I, O, D, G>(ground, hub, pass, passes, log, doors)?;
+    let (served, log) = over;
+    let LineLog { sink, whole } = log;
+    take_back(sink);
+    if whole {
+        return Ok(Kept::Served(served));
+    }
+    Ok(Kept::Broken)
 }
 
 /// Takes a log from the source up to its end, binds the address, mends the end of the log, and serves the connections that come
@@ -271,12 +277,12 @@ pub fn serve_kept<
     } = reloaded;
     match taken {
         Taken::All { unclosed, torn } => {
-            let log = TakenLog {
+            let taken = TakenLog {
                 pass,
                 unclosed,
                 torn,
             };
-            serve_taken(ground, &hub, place, log, sink, doors)
+            serve_taken(ground, &hub, place, taken, sink, doors)
         }
         Taken::Spent => Ok(Kept::Spent),
         Taken::Failed => Ok(Kept::ReadFault),

@@ -1,5 +1,4 @@
-use Rattle.std.proofs.Common.{◌≡◌, None, List, [], ap, ◌∙◌, subst, sym, arith}
-use Rattle.std.proofs.lemmas.Result.{IfOk-weaker}
+use Rattle.std.proofs.Common.{◌≡◌, Bool, None, List, [], false, ap, ◌∙◌, rules, subst, sym, arith}
 use Rattle.cq_base.specs.declared.change.Change.{Change}
 use Rattle.cq_cells.specs.Passes.{by_of}
 use Rattle.cq_chain.specs.Passes.{BoardPass}
@@ -7,15 +6,15 @@ use Rattle.cq_history.specs.State.{accepted, view_of}
 use Rattle.cq_listen.proofs.Seating.{child_idle}
 use Rattle.cq_log.specs.Mending.{mending}
 use Rattle.cq_shared.specs.SharedPasses.{state_of}
-use Rattle.cq_serve_kept.specs.Continued.{EndsServed}
-use Rattle.cq_serve_kept.proofs.Mended.{ends_mended, first_taken, mends_front}
+use Rattle.cq_serve_kept.specs.Continued.{ContinuesBroken, ContinuesWhole, EndsLogged}
+use Rattle.cq_serve_kept.proofs.Mended.{broken_mended, first_taken, mends_front, whole_mended}
 use Rattle.cq_serve_kept.proofs.FirstPass.{room_left}
 use Rattle.cq_serve_kept.proofs.serving.serve_taken.Goals as goal
 
 pub passes_of-requires : goal.passes_of-requires
 passes_of-requires g c =
     let hub = c.args.hub.now in
-    let p = c.args.log.pass in
+    let p = c.args.taken.pass in
     let (changes, has) = c.requires.taken in
     let left = room_left hub c.args.ground.now.settings.now changes p has in
     record {
@@ -26,7 +25,7 @@ passes_of-requires g c =
 pub passes_of-2-requires : goal.passes_of-2-requires
 passes_of-2-requires g c =
     let (changes, has) = c.requires.taken in
-    let left = room_left c.args.hub.now c.args.ground.now.settings.now changes c.args.log.pass has in
+    let left = room_left c.args.hub.now c.args.ground.now.settings.now changes c.args.taken.pass has in
     let room = c.requires.room in
     let first = c.in_ok-passes_of.ensures.room in
     record { idle = c.in_ok-passes_of.ensures.idle; room = omega (arith, left, room, first) }
@@ -34,7 +33,7 @@ passes_of-2-requires g c =
 pub split_pass-requires : goal.split_pass-requires
 split_pass-requires g c =
     let (changes, has) = c.requires.taken in
-    let left = room_left c.args.hub.now c.args.ground.now.settings.now changes c.args.log.pass has in
+    let left = room_left c.args.hub.now c.args.ground.now.settings.now changes c.args.taken.pass has in
     let room = c.requires.room in
     let first = c.in_ok-passes_of.ensures.room in
     let second = c.in_ok-passes_of-2.ensures.room in
@@ -43,7 +42,7 @@ split_pass-requires g c =
 pub returns-in-Err-mend-clause-ends : goal.returns-in-Err-mend-clause-ends
 returns-in-Err-mend-clause-ends g c = λ changes has.
     let (front, more, parts, sent) = c.in-Err-mend.ensures.bytes in
-    mends_front c.args.hub.now c.args.ground.now.settings.now changes c.args.log.pass has g.K.Sink c.args.sink.now c.mend.new.sink (mending c.args.log.unclosed c.args.log.torn) front more parts sent c.in-Err-mend.ensures.cause.failed
+    mends_front c.args.hub.now c.args.ground.now.settings.now changes c.args.taken.pass has g.K.Sink c.args.sink.now c.mend.new.sink (mending c.args.taken.unclosed c.args.taken.torn) front more parts sent c.in-Err-mend.ensures.cause.failed
 
 pub serve_logging-requires-clause-settings : goal.serve_logging-requires-clause-settings
 serve_logging-requires-clause-settings g c κs lives = let (changes, has) = c.requires.taken in has.settings
@@ -53,7 +52,7 @@ serve_logging-requires-clause-first g c κs lives =
     let q : BoardPass = c.split_pass.new.pass in
     let split = c.split_pass.ensures in
     let (changes, has) = c.requires.taken in
-    first_taken c.args.hub.now c.args.ground.now.settings.now changes c.args.log.pass has q split.of.0 (ap (λ (x : BoardPass). by_of x) split.same ∙ (c.in_ok-passes_of-2.ensures.caller ∙ c.in_ok-passes_of.ensures.caller))
+    first_taken c.args.hub.now c.args.ground.now.settings.now changes c.args.taken.pass has q split.of.0 (ap (λ (x : BoardPass). by_of x) split.same ∙ (c.in_ok-passes_of-2.ensures.caller ∙ c.in_ok-passes_of.ensures.caller))
 
 pub serve_logging-requires-clause-workers : goal.serve_logging-requires-clause-workers
 serve_logging-requires-clause-workers g c κs lives = c.in_ok-passes_of.ensures.each
@@ -66,7 +65,7 @@ serve_logging-requires-clause-own g c κs lives =
     let hub = c.args.hub.now in
     let split = c.split_pass.ensures in
     let (changes, has) = c.requires.taken in
-    let left = room_left hub c.args.ground.now.settings.now changes c.args.log.pass has in
+    let left = room_left hub c.args.ground.now.settings.now changes c.args.taken.pass has in
     let room = c.requires.room in
     let room_one = c.in_ok-passes_of.ensures.room in
     let room_two = c.in_ok-passes_of-2.ensures.room in
@@ -75,17 +74,25 @@ serve_logging-requires-clause-own g c κs lives =
 pub serve_logging-requires-clause-few : goal.serve_logging-requires-clause-few
 serve_logging-requires-clause-few g c κs lives = let number = c.in_ok-passes_of-2.ensures.number in let sessions = c.requires.sessions in omega (arith, number, sessions)
 
-pub returns-clause-ends : goal.returns-clause-ends
-returns-clause-ends g c =
+pub returns-then-whole-clause-ends : goal.returns-then-whole-clause-ends
+returns-then-whole-clause-ends g c = λ changes has.
     let set = c.args.ground.now.settings.now in
-    let old = c.args.sink.now in
+    let log = c.in_ok-over.over.1 in
     let mid = c.mend.new.sink in
-    let now = c.serve_logging.new.sink in
-    let one = c.in_ok-passes_of.ensures in
-    let two = c.in_ok-passes_of-2.ensures in
-    let same : accepted c.split_pass.new.pass.seen ≡ accepted c.args.log.pass.seen = ap (λ (x : BoardPass). accepted x.seen) c.split_pass.ensures.same ∙ ap accepted (two.seen ∙ one.seen) in
-    IfOk-weaker c.serve_logging.result _ _
-    (λ by served changes has.
-    ends_mended g.K.Sink set changes old mid now (mending c.args.log.unclosed c.args.log.torn) c.in-Ok-mend.ensures.bytes c.in-Ok-mend.ensures.cause.kept by
-    (subst (λ (cs : List Change). EndsServed g.K.Sink set [] cs mid now by) (same ∙ has.accepts) served))
-    c.serve_logging.ensures.ends
+    let same : accepted c.split_pass.new.pass.seen ≡ accepted c.args.taken.pass.seen = ap (λ (x : BoardPass). accepted x.seen) c.split_pass.ensures.same ∙ ap accepted (c.in_ok-passes_of-2.ensures.seen ∙ c.in_ok-passes_of.ensures.seen) in
+    let logged = subst (λ (whole : Bool). EndsLogged g.K.Sink set [] (accepted c.split_pass.new.pass.seen) mid log.sink.now whole) c.if-whole.true c.in_ok-over.ensures.ends in
+    let whole = whole_mended g.K.Sink set changes c.args.sink.now mid log.sink.now (mending c.args.taken.unclosed c.args.taken.torn) c.in-Ok-mend.ensures.bytes
+    (subst (λ (cs : List Change). ContinuesWhole g.K.Sink set [] cs mid log.sink.now) (same ∙ has.accepts) logged) in
+    rw (sym c.take_back.ensures) at whole
+
+pub returns-clause-ends : goal.returns-clause-ends
+returns-clause-ends g c = λ changes has.
+    let set = c.args.ground.now.settings.now in
+    let log = c.in_ok-over.over.1 in
+    let mid = c.mend.new.sink in
+    let broken : log.whole ≡ false = search rules in
+    let same : accepted c.split_pass.new.pass.seen ≡ accepted c.args.taken.pass.seen = ap (λ (x : BoardPass). accepted x.seen) c.split_pass.ensures.same ∙ ap accepted (c.in_ok-passes_of-2.ensures.seen ∙ c.in_ok-passes_of.ensures.seen) in
+    let logged = subst (λ (whole : Bool). EndsLogged g.K.Sink set [] (accepted c.split_pass.new.pass.seen) mid log.sink.now whole) broken c.in_ok-over.ensures.ends in
+    let cut = broken_mended g.K.Sink set changes c.args.sink.now mid log.sink.now (mending c.args.taken.unclosed c.args.taken.torn) c.in-Ok-mend.ensures.bytes c.in-Ok-mend.ensures.cause.kept
+    (subst (λ (cs : List Change). ContinuesBroken g.K.Sink set [] cs mid log.sink.now) (same ∙ has.accepts) logged) in
+    rw (sym c.take_back.ensures) at cut

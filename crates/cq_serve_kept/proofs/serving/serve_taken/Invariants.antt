@@ -5,8 +5,8 @@ use Rattle.cq_serve_kept.proofs.serving.serve_taken.Given as goal
 abbrev pub ghosts-serve_logging : goal.ghosts-serve_logging
 ghosts-serve_logging g a = record {
   cells = cells_of a.hub.now;
-  name = a.sink.ghost_name;
-  begun = g.K.Sink.written a.sink.now;
+  name = a.log.sink.ghost_name;
+  begun = g.K.Sink.written a.log.sink.now;
   before = accepted a.pass.seen;
-  faults = g.K.Sink.faults a.sink.now;
+  faults = g.K.Sink.faults a.log.sink.now;
 }
