@@ -1,4 +1,4 @@
--- The first caller of a hub, who alone accepts changes.
+-- The first caller of a hub, the only one that accepts changes.
 use Rattle.std.specs.Prelude.{◌≡◌, ℕ, [], ◌∷◌, ◌++◌}
 use Rattle.cq_base.specs.declared.change.Change.{Change}
 use Rattle.cq_board.specs.declared.answers.Refused.{Refused}
@@ -37,6 +37,6 @@ module _ {W R : Type 0} (hub : Shared W R) where
     abbrev pub Refuses : Change → Refused → Type 0
     Refuses change cause = Calls hub p q [] (IsRefusedFor (settings_of hub) (callers_of hub) change cause)
 
-    -- nobody is told whether it was
+    -- no answer says whether it was
     abbrev pub SeesMore : Type 0
     SeesMore = Calls hub p q [] (λ _. Unit {0})

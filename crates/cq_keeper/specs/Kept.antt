@@ -50,7 +50,7 @@ module _ {K N : Type 0} (onto : sink.Ghosts K) (of : log_of.Ghosts N) where
     pub written : Appends of.begun (onto.written log.sink) (flat_map ended lines ++ front)
     pub rose : Rose of.faults (onto.faults log.sink)
 
-  -- The pass is that of the first caller of the cells, who alone accepts changes, so it has seen each acceptance. If each line
+  -- The pass is that of the first caller of the cells, the only one that accepts changes, so it has seen each acceptance. If each line
   -- was written whole, the log has the lines of the changes that were accepted since it began, and else a front of these.
   pub record IsLogOf (log : Logged K) (p : BoardPass) : Type 0 where
     pub cells : chain.IsPassOf of.cells p
@@ -62,7 +62,7 @@ module _ {K N : Type 0} (onto : sink.Ghosts K) (of : log_of.Ghosts N) where
     pub whole : log.whole ≡ true → HasLines log since × (onto.faults log.sink ≡ of.faults)
     pub cut_off : log.whole ≡ false → IsCutOff log since
 
--- the change was not accepted, for this cause; or nobody is told whether it was
+-- the change was not accepted, for this cause; or no answer says whether it was
 abbrev pub RefusesKept : {W R : Type 0} → Shared W R → BoardPass → BoardPass → Change → Unkept → Type 0
 RefusesKept hub p q change (unkept.Refused cause) = firsts.Refuses hub p q change cause
 RefusesKept hub p q change unkept.Broken = firsts.SeesMore hub p q

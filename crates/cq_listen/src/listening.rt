@@ -120,10 +120,10 @@ pub struct Passes<W: Indexed> {
 /// Serves the connections that the doors give, each by a session over the hub and the keeper, until no more will come or a call
 /// of the doors fails: then no further door is asked for, and the connections that came before are served to their ends. So
 /// many threads run the sessions as there are passes for them, each one at a time, and so many workers make the works of
-/// accepted changes beside them. A connection's own fault ends its session alone. The gate is told what `kept_session` and
-/// the workers' turns tell it, from their threads.
+/// accepted changes beside them. A connection's own fault ends only its session. `kept_session` and the
+/// workers' turns report to the gate, from their threads.
 ///
-/// The calling thread alone asks the doors. It hands each connection over by a queue with as many places as there are
+/// Only the calling thread asks the doors. It hands each connection over by a queue with as many places as there are
 /// sessions, and asks for the next one only where a place is free. So a client that sends nothing, or half a line, or never
 /// reads, keeps one thread, and nobody else. With no session, or if no thread can be made for one, the calling thread serves each
 /// connection itself before it asks for the next one; a worker for which none can be made doesn't work.

@@ -20,7 +20,7 @@ module _ {W R : Type 0} (hub : Shared W R) where
     pub settings : settings_of hub ≡ set
     pub of : IsPassOf hub p
 
-  -- the pass is the hub's first, which alone accepts changes, and has made no other caller; it has no view open and nothing
+  -- the pass is the hub's first, the only one that accepts changes, and has made no other caller; it has no view open and nothing
   -- in hand, and these are the accepted changes
   pub record HasTaken (p : BoardPass) (set : Settings) (changes : List Change) : Type 0 where
     pub of : IsPassOf hub p

@@ -32,7 +32,7 @@ pub trait Keeper<W: Indexed, H: Hub<W>> {
         ensures { result ≡ strict self.now };
 
     /// Accepts a change that a line says, keeps the line, and answers the number of the change. After `Broken` the change may
-    /// be accepted, but nobody is told.
+    /// be accepted, but no reply reports it.
     fn accept(
         &self,
         hub: &H,
