@@ -19,7 +19,7 @@ pub record EndsAsWorkedOut : Type 0 where
   pub the_second_feed : mending false true ≡ codes "\n"
   pub no_mending : mending false false ≡ []
 
--- a line that is cut off, mended or not, alone and before a whole one
+-- a line that is cut off, mended or not, by itself and before a whole one
 pub record HoldsAsWorkedOut (set : Settings) (L P : List ℕ) (change : Change) : Type 0 where
   pub nothing : held_in set [] ≡ Some (front_of [] [] false)
   pub whole : held_in set (L ∷ []) ≡ Some (front_of (L ∷ []) (change ∷ []) false)

@@ -1,4 +1,4 @@
-ghost use Rattle.std.specs.Prelude.{◌≡◌, IfOk};
+ghost use Rattle.std.specs.Prelude.{◌≡◌, Err, IfOk};
 ghost use Rattle.cq_log.specs.Logs.{is_torn};
 ghost use Rattle.cq_log.specs.Takers.{IsLogLine, IsSoundLine};
 ghost use Rattle.cq_request.specs.Reading.{line_says};
@@ -28,6 +28,17 @@ fn was_cut_off(why: &Refusal) -> bool
     }
 }
 
+// What a line is that is refused for this.
+fn refused_line(why: Refusal) -> LogLine
+    ensures is { IsLogLine (Err why) result }
+    ensures sound { IsSoundLine result }
+{
+    if was_cut_off(&why) {
+        return LogLine::Torn;
+    }
+    LogLine::Other
+}
+
 /// What a line is.
 pub(crate) fn log_line(alloc: Global, settings: &Settings, line: &[u8]) -> Result<LogLine, Memory>
     ensures is { IfOk result (IsLogLine (line_says settings.now.chunk line.now)) }
@@ -37,12 +48,7 @@ pub(crate) fn log_line(alloc: Global, settings: &Settings, line: &[u8]) -> Resul
         Ok(Request::Change(change)) => Ok(LogLine::Change(change)),
         Ok(Request::Query(_query)) => Ok(LogLine::Other),
         Ok(Request::State) => Ok(LogLine::Other),
-        Err(ReadError::Refused(why)) => {
-            if was_cut_off(&why) {
-                return Ok(LogLine::Torn);
-            }
-            Ok(LogLine::Other)
-        }
+        Err(ReadError::Refused(why)) => Ok(refused_line(why)),
         Err(ReadError::Memory) => Err(Memory),
     }
 }
