@@ -36,11 +36,13 @@ impl<'a, L: Ledger, R: Wait> Reloaded<'a, L, R> {
         ensures done { OnOk result (StaysDone self.old.hub.now self.old.pass self.new.pass) }
     {
         'works: for _ in 0..u64::MAX {
-            let Some(job) = self.hub.take(&mut self.pass)? else {
-                return Ok(());
-            };
-            let work = work_for(alloc, self.keyer, job.lang, &job.text)?;
-            let _finished = self.hub.finish(job.change, work, &mut self.pass);
+            match self.hub.take(&mut self.pass)? {
+                Some(job) => {
+                    let work = work_for(alloc, self.keyer, job.lang, &job.text)?;
+                    let _finished = self.hub.finish(job.change, work, &mut self.pass);
+                }
+                None => return Ok(()),
+            }
         }
         // Not reached: each work was made once, and fewer changes are accepted.
         Err(Memory)

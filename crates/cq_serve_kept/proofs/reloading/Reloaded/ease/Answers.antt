@@ -14,7 +14,7 @@ pub returns-clause-low : goal.returns-clause-low
 returns-clause-low g c = λ set changes is.
     let hub = c.args.self.now.hub.now in
     let (still, done) = c.in_ok-make_works.ensures.done set changes is in
-    low_then hub set changes c.make_works.new.self.pass c.ask-asked.new.pass c.advance-version.new.pass c.sweep-floor.new.pass still done c.ask-asked.result c.ask-asked.ensures.asks c.in_ok-version.version c.in_ok-version.ensures.published
+    low_then hub set changes c.make_works.new.self.pass c.ask-asked.new.pass c.advance-version.new.pass c.sweep-floor.new.pass still done c.ask-asked.result c.ask-asked.ensures.asks _ c.in_ok-version.ensures.published
     c.sweep-floor.result c.sweep-floor.ensures.swept
 
 pub returns-clause-ready : goal.returns-clause-ready

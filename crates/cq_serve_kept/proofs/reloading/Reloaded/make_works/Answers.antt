@@ -1,5 +1,6 @@
-use Rattle.std.proofs.Common.{◌≡◌, ◌∷◌, [], List, ℕ, refl, sym, subst, subst₂}
+use Rattle.std.proofs.Common.{◌≡◌, ◌≤◌, ◌∷◌, [], List, ℕ, length, refl, sym, subst, subst₂}
 use Rattle.std.specs.Arc.{arc_value}
+use Rattle.std.specs.Str.{IsUtf8}
 use Rattle.cq_base.specs.declared.change.Change.{Change}
 use Rattle.cq_base.specs.declared.settings.Settings.{Settings}
 use Rattle.cq_cells.specs.Passes.{by_of}
@@ -18,12 +19,22 @@ use Rattle.cq_serve_kept.proofs.reloading.Reloaded.make_works.Goals as goal
 pub works-init : goal.works-init
 works-init g c = record { ready = c.requires.ready; same = (refl, refl); still = λ set changes is. is }
 
+pub work_for-work-requires-clause-utf8 : goal.work_for-work-requires-clause-utf8
+work_for-work-requires-clause-utf8 g c =
+    let took = rw c.in-Some.is at c.in_ok-job.ensures.taken in
+    subst IsUtf8 (sym c.deref.ensures) took.says.3.0
+
+pub work_for-work-requires-clause-short : goal.work_for-work-requires-clause-short
+work_for-work-requires-clause-short g c =
+    let took = rw c.in-Some.is at c.in_ok-job.ensures.taken in
+    subst (λ (text : List ℕ). length text ≤ 1048576) (sym c.deref.ensures) took.says.3.1
+
 pub finish-finished-requires : goal.finish-finished-requires
 finish-finished-requires g c =
     let hub = c.args.self.now.hub.now in
     let p = c.works.self.pass in
     let job = c.in-Some.job in
-    let took = rw c.in-Some.is at c.in_ok-take.ensures.taken in
+    let took = rw c.in-Some.is at c.in_ok-job.ensures.taken in
     let seen = subst (λ (h : List Event). IsAccepted (state_of hub h) job.change × ((slot_of (state_of hub h) job.change).change ≡ (slot_of (state_of hub took.mid) job.change).change)) (sym took.seen)
     (doing.accepted_stays (callers_of hub) took.mid (Took (by_of p) job.change ∷ []) job.change took.says.1) in
     let made = subst₂ (λ (s : Settings) (text : List ℕ). IsWorkOf s job.lang text (arc_value c.in_ok-work.work)) (sym c.works.invariant.ready.settings) c.deref.ensures c.in_ok-work.ensures in
@@ -37,7 +48,7 @@ pub works-preserved : goal.works-preserved
 works-preserved g c =
     let hub = c.args.self.now.hub.now in
     let i = c.works.invariant in
-    let took = rw c.in-Some.is at c.in_ok-take.ensures.taken in
+    let took = rw c.in-Some.is at c.in_ok-job.ensures.taken in
     record {
       ready = record { in_range = i.ready.in_range; settings = i.ready.settings; of = c.finish-finished.ensures.of };
       same = i.same;
@@ -45,7 +56,7 @@ works-preserved g c =
           taken_finished hub set changes c.works.self.pass (i.still set changes is) c.take.new.pass c.finish-finished.new.pass c.in-Some.job.change _ took c.finish-finished.result c.finish-finished.ensures.done c.finish-finished.ensures.already;
     }
 
-pub returns-in_default-clause-done : goal.returns-in_default-clause-done
-returns-in_default-clause-done g c = λ set changes is.
+pub returns-in-None-clause-done : goal.returns-in-None-clause-done
+returns-in-None-clause-done g c = λ set changes is.
     let hub = c.args.self.now.hub.now in
-    done_taken hub set changes c.works.self.pass c.take.new.pass (c.works.invariant.still set changes is) (rw c.in_default.is at c.in_ok-take.ensures.taken)
+    done_taken hub set changes c.works.self.pass c.take.new.pass (c.works.invariant.still set changes is) (rw c.in-None.is at c.in_ok-job.ensures.taken)
