@@ -61,6 +61,11 @@ module _ {W R : Type 0} (hub : Shared W R) where
   pub waited : (p q : BoardPass) (c : ℕ) (Says : List Event → Type 0) → by_of p ≡ c → Calls hub p q [] Says → Grows ⊥ Never c p.seen q.seen []
   waited p q c Says is call = subst (λ (g : List Event). Grows ⊥ Never c p.seen g []) (sym (call.seen ∙ append-nil call.mid)) (subst (λ (n : ℕ). Grows ⊥ Never n p.seen call.mid []) is call.others)
 
+  -- who ended a work has a pass, whatever the end of the work answers
+  pub of_finished : (m q : BoardPass) (r : ℕ) (result : Finished) → (result ≡ finished.Done → Does hub m q r) → (result ≡ finished.Already → FindsDone hub m q r) → IsPassOf hub q
+  of_finished m q r finished.Done does late = (does refl).of
+  of_finished m q r finished.Already does late = (late refl).of
+
   -- as a hub is made
   pub taken_none : (set : Settings) (p : BoardPass) → IsPassOf hub p → by_of p ≡ 0 → OnlyFirstAccepts hub → p.next ≡ 1 → settings_of hub ≡ set → p.seen ≡ [] → HasTaken hub p set []
   taken_none set p of caller only next same none = record {

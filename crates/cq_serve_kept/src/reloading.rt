@@ -3,6 +3,7 @@ ghost use Rattle.cq_base.specs.Changes.{IsSoundChange};
 ghost use Rattle.cq_base.specs.declared.change.Change.{Change as Said};
 ghost use Rattle.cq_request.specs.Reading.{line_says};
 ghost use Rattle.cq_request.specs.declared.request.Request.TheVariants as request;
+ghost use Rattle.cq_shared.specs.SharedPasses.{IsPassOf};
 ghost use Rattle.cq_serve_kept.specs.Reloads.{MayReload, StaysDone, StaysLow, TakesSaid, TakesWhereLow};
 
 use cq_base::{Change, Memory, Settings};
@@ -26,84 +27,89 @@ pub(crate) struct Reloaded<'a, L: Ledger, R> {
     pub pass: Pass<Work<L>>,
 }
 
-impl<'a, L: Ledger, R: Wait> Reloaded<'a, L, R> {
-    // The works of all changes are made.
-    fn make_works(&mut self, alloc: Global) -> Result<(), Memory>
-        requires ready { MayReload self.old.hub.now self.old.keyer.now.settings self.old.pass }
-        ensures ready { OnOk result
-            (MayReload self.new.hub.now self.new.keyer.now.settings self.new.pass) }
-        ensures same { (self.new.hub.now ≡ self.old.hub.now) × (self.new.keyer.now.settings ≡ self.old.keyer.now.settings) }
-        ensures done { OnOk result (StaysDone self.old.hub.now self.old.pass self.new.pass) }
-    {
-        'works: for _ in 0..u64::MAX {
-            match self.hub.take(&mut self.pass)? {
-                Some(job) => {
-                    let work = work_for(alloc, self.keyer, job.lang, &job.text)?;
-                    let _finished = self.hub.finish(job.change, work, &mut self.pass);
-                }
-                None => return Ok(()),
+// The works of all changes are made.
+fn make_works<L: Ledger, R: Wait>(
+    alloc: Global,
+    keyer: &Keyer,
+    hub: &Shared<Work<L>, R>,
+    pass: &mut Pass<Work<L>>,
+) -> Result<(), Memory>
+    requires ready { MayReload hub.now keyer.now.settings pass.old }
+    ensures ready { OnOk result (MayReload hub.now keyer.now.settings pass.new) }
+    ensures done { OnOk result (StaysDone hub.now pass.old pass.new) }
+{
+    'works: for _ in 0..u64::MAX {
+        match hub.take(pass)? {
+            Some(job) => {
+                let work = work_for(alloc, keyer, job.lang, &job.text)?;
+                let _finished = hub.finish(job.change, work, pass);
             }
-        }
-        // Not reached: each work was made once, and fewer changes are accepted.
-        Err(Memory)
-    }
-
-    // Publishes all changes, and lets go of what the last version doesn't need.
-    fn ease(&mut self, alloc: Global) -> Result<(), Memory>
-        requires ready { MayReload self.old.hub.now self.old.keyer.now.settings self.old.pass }
-        ensures ready { OnOk result
-            (MayReload self.new.hub.now self.new.keyer.now.settings self.new.pass) }
-        ensures same { (self.new.hub.now ≡ self.old.hub.now) × (self.new.keyer.now.settings ≡ self.old.keyer.now.settings) }
-        ensures low { OnOk result (StaysLow self.old.hub.now self.old.pass self.new.pass) }
-    {
-        self.make_works(alloc)?;
-        let asked = self.hub.ask(&mut self.pass);
-        let _version = self
-            .hub
-            .advance(alloc, asked.done, &OpenGate, &mut self.pass)?;
-        let _floor = self.hub.sweep(alloc, &mut self.pass)?;
-        Ok(())
-    }
-
-    // Accepts a change, and answers whether it is accepted, where the floor is at the last one.
-    fn accept(&mut self, alloc: Global, change: Change) -> Result<bool, Memory>
-        requires ready { MayReload self.old.hub.now self.old.keyer.now.settings self.old.pass }
-        requires sound { IsSoundChange change }
-        ensures ready { OnOk result
-            (MayReload self.new.hub.now self.new.keyer.now.settings self.new.pass) }
-        ensures same { (self.new.hub.now ≡ self.old.hub.now) × (self.new.keyer.now.settings ≡ self.old.keyer.now.settings) }
-        ensures takes { IfOk result (TakesWhereLow self.old.hub.now self.old.pass self.new.pass change) }
-    {
-        match self.hub.accept(alloc, change, &mut self.pass) {
-            Ok(_number) => Ok(true),
-            Err(Refused::Memory) => Err(Memory),
-            Err(Refused::Absent) => Ok(false),
-            Err(Refused::FullChanges) => Ok(false),
-            Err(Refused::FullText) => Ok(false),
+            None => return Ok(()),
         }
     }
+    // Not reached: each work was made once, and fewer changes are accepted.
+    Err(Memory)
+}
 
-    // Accepts the change that a line says, once all was let go that can be.
-    fn accept_again(
-        &mut self,
-        alloc: Global,
-        settings: &Settings,
-        line: &[u8],
-    ) -> Result<bool, Memory>
-        requires ready { MayReload self.old.hub.now self.old.keyer.now.settings self.old.pass }
-        requires says { (wanted : Said) × (line_says settings.now.chunk line.now ≡ Ok (request.Change wanted)) }
-        ensures ready { OnOk result
-            (MayReload self.new.hub.now self.new.keyer.now.settings self.new.pass) }
-        ensures same { (self.new.hub.now ≡ self.old.hub.now) × (self.new.keyer.now.settings ≡ self.old.keyer.now.settings) }
-        ensures takes { IfOk result (TakesSaid self.old.hub.now self.old.pass self.new.pass settings.now.chunk line.now) }
-    {
-        self.ease(alloc)?;
-        match read_request(alloc, settings, line) {
-            Ok(Request::Change(change)) => self.accept(alloc, change),
-            Ok(Request::Query(_query)) => unreachable!(),
-            Ok(Request::State) => unreachable!(),
-            Err(_why) => Err(Memory),
-        }
+// Publishes all changes, and lets go of what the last version doesn't need.
+fn ease<L: Ledger, R: Wait>(
+    alloc: Global,
+    keyer: &Keyer,
+    hub: &Shared<Work<L>, R>,
+    pass: &mut Pass<Work<L>>,
+) -> Result<(), Memory>
+    requires ready { MayReload hub.now keyer.now.settings pass.old }
+    ensures ready { OnOk result (MayReload hub.now keyer.now.settings pass.new) }
+    ensures low { OnOk result (StaysLow hub.now pass.old pass.new) }
+{
+    make_works(alloc, keyer, hub, pass)?;
+    let asked = hub.ask(pass);
+    let _version = hub.advance(alloc, asked.done, &OpenGate, pass)?;
+    let _floor = hub.sweep(alloc, pass)?;
+    Ok(())
+}
+
+// Accepts a change, and answers whether it is accepted, if the floor is at the last one.
+fn accept_low<L: Ledger, R: Wait>(
+    alloc: Global,
+    hub: &Shared<Work<L>, R>,
+    change: Change,
+    pass: &mut Pass<Work<L>>,
+) -> Result<bool, Memory>
+    requires of { IsPassOf hub.now pass.old }
+    requires sound { IsSoundChange change }
+    ensures of { OnOk result (IsPassOf hub.now pass.new) }
+    ensures takes { IfOk result (TakesWhereLow hub.now pass.old pass.new change) }
+{
+    match hub.accept(alloc, change, pass) {
+        Ok(_number) => Ok(true),
+        Err(Refused::Memory) => Err(Memory),
+        Err(Refused::Absent) => Ok(false),
+        Err(Refused::FullChanges) => Ok(false),
+        Err(Refused::FullText) => Ok(false),
+    }
+}
+
+// Accepts the change that a line says, once all was let go that can be.
+fn accept_again<L: Ledger, R: Wait>(
+    alloc: Global,
+    settings: &Settings,
+    keyer: &Keyer,
+    hub: &Shared<Work<L>, R>,
+    line: &[u8],
+    pass: &mut Pass<Work<L>>,
+) -> Result<bool, Memory>
+    requires ready { MayReload hub.now keyer.now.settings pass.old }
+    requires says { (wanted : Said) × (line_says settings.now.chunk line.now ≡ Ok (request.Change wanted)) }
+    ensures ready { OnOk result (MayReload hub.now keyer.now.settings pass.new) }
+    ensures takes { IfOk result (TakesSaid hub.now pass.old pass.new settings.now.chunk line.now) }
+{
+    ease(alloc, keyer, hub, pass)?;
+    match read_request(alloc, settings, line) {
+        Ok(Request::Change(change)) => accept_low(alloc, hub, change, pass),
+        Ok(Request::Query(_query)) => unreachable!(),
+        Ok(Request::State) => unreachable!(),
+        Err(_why) => Err(Memory),
     }
 }
 
@@ -125,8 +131,12 @@ impl<'a, L: Ledger, R: Wait> Taker for Reloaded<'a, L, R> {
             Ok(_number) => Ok(true),
             Err(Refused::Memory) => Err(Memory),
             Err(Refused::Absent) => Ok(false),
-            Err(Refused::FullChanges) => self.accept_again(alloc, settings, line),
-            Err(Refused::FullText) => self.accept_again(alloc, settings, line),
+            Err(Refused::FullChanges) => {
+                accept_again(alloc, settings, self.keyer, self.hub, line, &mut self.pass)
+            }
+            Err(Refused::FullText) => {
+                accept_again(alloc, settings, self.keyer, self.hub, line, &mut self.pass)
+            }
         }
     }
 }

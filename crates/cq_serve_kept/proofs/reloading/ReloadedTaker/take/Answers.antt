@@ -35,7 +35,7 @@ returns-in-Err-FullChanges-clause-takes g c =
     let hub = c.args.self.now.hub.now in
     let set = c.args.settings.now in
     let m = c.accept.new.pass in
-    let q = c.accept_again.new.self.pass in
+    let q = c.accept_again.new.pass in
     IfOk-weaker c.accept_again.result _ _
     (λ result takes lines changes is. taken_as hub set changes q c.args.change _ _ lines c.args.line.now (λ has. has) result (takes c.args.change c.requires.says set changes (taken_waited hub set changes c.args.self.now.pass is m _ c.in-Err-FullChanges.ensures.refused)))
     c.accept_again.ensures.takes
@@ -51,7 +51,7 @@ returns-in-Err-FullText-clause-takes g c =
     let hub = c.args.self.now.hub.now in
     let set = c.args.settings.now in
     let m = c.accept.new.pass in
-    let q = c.accept_again-in-Err-FullText.new.self.pass in
+    let q = c.accept_again-in-Err-FullText.new.pass in
     IfOk-weaker c.accept_again-in-Err-FullText.result _ _
     (λ result takes lines changes is. taken_as hub set changes q c.args.change _ _ lines c.args.line.now (λ has. has) result (takes c.args.change c.requires.says set changes (taken_waited hub set changes c.args.self.now.pass is m _ c.in-Err-FullText.ensures.refused)))
     c.accept_again-in-Err-FullText.ensures.takes

@@ -13,11 +13,11 @@ use Rattle.cq_session.proofs.Working.{job_work}
 use Rattle.cq_shared.specs.SharedPasses.{callers_of, settings_of, state_of}
 use Rattle.cq_work.specs.Work.{IsWorkOf}
 use Rattle.cq_serve_kept.proofs.Lowering.{done_taken}
-use Rattle.cq_serve_kept.proofs.FirstPass.{taken_finished}
-use Rattle.cq_serve_kept.proofs.reloading.Reloaded.make_works.Goals as goal
+use Rattle.cq_serve_kept.proofs.FirstPass.{of_finished, taken_finished}
+use Rattle.cq_serve_kept.proofs.reloading.make_works.Goals as goal
 
 pub works-init : goal.works-init
-works-init g c = record { ready = c.requires.ready; same = (refl, refl); still = λ set changes is. is }
+works-init g c = record { ready = c.requires.ready; still = λ set changes is. is }
 
 pub work_for-work-requires-clause-utf8 : goal.work_for-work-requires-clause-utf8
 work_for-work-requires-clause-utf8 g c =
@@ -31,8 +31,8 @@ work_for-work-requires-clause-short g c =
 
 pub finish-finished-requires : goal.finish-finished-requires
 finish-finished-requires g c =
-    let hub = c.args.self.now.hub.now in
-    let p = c.works.self.pass in
+    let hub = c.args.hub.now in
+    let p = c.works.pass in
     let job = c.in-Some.job in
     let took = rw c.in-Some.is at c.in_ok-job.ensures.taken in
     let seen = subst (λ (h : List Event). IsAccepted (state_of hub h) job.change × ((slot_of (state_of hub h) job.change).change ≡ (slot_of (state_of hub took.mid) job.change).change)) (sym took.seen)
@@ -46,17 +46,20 @@ finish-finished-requires g c =
 
 pub works-preserved : goal.works-preserved
 works-preserved g c =
-    let hub = c.args.self.now.hub.now in
+    let hub = c.args.hub.now in
     let i = c.works.invariant in
     let took = rw c.in-Some.is at c.in_ok-job.ensures.taken in
     record {
-      ready = record { in_range = i.ready.in_range; settings = i.ready.settings; of = c.finish-finished.ensures.of };
-      same = i.same;
+      ready = record {
+        in_range = i.ready.in_range;
+        settings = i.ready.settings;
+        of = of_finished hub c.take.new.pass c.finish-finished.new.pass c.in-Some.job.change c.finish-finished.result c.finish-finished.ensures.done c.finish-finished.ensures.already;
+      };
       still = λ set changes is.
-          taken_finished hub set changes c.works.self.pass (i.still set changes is) c.take.new.pass c.finish-finished.new.pass c.in-Some.job.change _ took c.finish-finished.result c.finish-finished.ensures.done c.finish-finished.ensures.already;
+          taken_finished hub set changes c.works.pass (i.still set changes is) c.take.new.pass c.finish-finished.new.pass c.in-Some.job.change _ took c.finish-finished.result c.finish-finished.ensures.done c.finish-finished.ensures.already;
     }
 
 pub returns-in-None-clause-done : goal.returns-in-None-clause-done
 returns-in-None-clause-done g c = λ set changes is.
-    let hub = c.args.self.now.hub.now in
-    done_taken hub set changes c.works.self.pass c.take.new.pass (c.works.invariant.still set changes is) (rw c.in-None.is at c.in_ok-job.ensures.taken)
+    let hub = c.args.hub.now in
+    done_taken hub set changes c.works.pass c.take.new.pass (c.works.invariant.still set changes is) (rw c.in-None.is at c.in_ok-job.ensures.taken)

@@ -1,20 +1,20 @@
 use Rattle.std.proofs.Common.{[]}
 use Rattle.cq_serve_kept.proofs.Lowering.{done_asked, low_then}
-use Rattle.cq_serve_kept.proofs.reloading.Reloaded.ease.Goals as goal
+use Rattle.cq_serve_kept.proofs.reloading.ease.Goals as goal
 
 pub advance-version-requires : goal.advance-version-requires
 advance-version-requires g c =
-    let hub = c.args.self.now.hub.now in
+    let hub = c.args.hub.now in
     record {
       of = c.ask-asked.ensures.asks.of;
-      done = done_asked hub c.args.self.now.keyer.now.settings [] c.make_works.new.self.pass c.ask-asked.new.pass c.ask-asked.result c.ask-asked.ensures.asks;
+      done = done_asked hub c.args.keyer.now.settings [] c.make_works.new.pass c.ask-asked.new.pass c.ask-asked.result c.ask-asked.ensures.asks;
     }
 
 pub returns-clause-low : goal.returns-clause-low
 returns-clause-low g c = λ set changes is.
-    let hub = c.args.self.now.hub.now in
+    let hub = c.args.hub.now in
     let (still, done) = c.in_ok-make_works.ensures.done set changes is in
-    low_then hub set changes c.make_works.new.self.pass c.ask-asked.new.pass c.advance-version.new.pass c.sweep-floor.new.pass still done c.ask-asked.result c.ask-asked.ensures.asks _ c.in_ok-version.ensures.published
+    low_then hub set changes c.make_works.new.pass c.ask-asked.new.pass c.advance-version.new.pass c.sweep-floor.new.pass still done c.ask-asked.result c.ask-asked.ensures.asks _ c.in_ok-version.ensures.published
     c.sweep-floor.result c.sweep-floor.ensures.swept
 
 pub returns-clause-ready : goal.returns-clause-ready
