@@ -83,7 +83,7 @@ returns-then-whole-clause-ends g c = λ changes has.
     let logged = subst (λ (whole : Bool). EndsLogged g.K.Sink set [] (accepted c.split_pass.new.pass.seen) mid log.sink.now whole) c.if-whole.true c.in_ok-over.ensures.ends in
     let whole = whole_mended g.K.Sink set changes c.args.sink.now mid log.sink.now (mending c.args.taken.unclosed c.args.taken.torn) c.in-Ok-mend.ensures.bytes
     (subst (λ (cs : List Change). ContinuesWhole g.K.Sink set [] cs mid log.sink.now) (same ∙ has.accepts) logged) in
-    rw (sym c.take_back.ensures) at whole
+    subst (λ (k : g.row.K.Denot). ContinuesWhole g.K.Sink set (mending c.args.taken.unclosed c.args.taken.torn) changes c.args.sink.now k) (search rules) whole
 
 pub returns-clause-ends : goal.returns-clause-ends
 returns-clause-ends g c = λ changes has.
@@ -95,4 +95,4 @@ returns-clause-ends g c = λ changes has.
     let logged = subst (λ (whole : Bool). EndsLogged g.K.Sink set [] (accepted c.split_pass.new.pass.seen) mid log.sink.now whole) broken c.in_ok-over.ensures.ends in
     let cut = broken_mended g.K.Sink set changes c.args.sink.now mid log.sink.now (mending c.args.taken.unclosed c.args.taken.torn) c.in-Ok-mend.ensures.bytes c.in-Ok-mend.ensures.cause.kept
     (subst (λ (cs : List Change). ContinuesBroken g.K.Sink set [] cs mid log.sink.now) (same ∙ has.accepts) logged) in
-    rw (sym c.take_back.ensures) at cut
+    subst (λ (k : g.row.K.Denot). ContinuesBroken g.K.Sink set (mending c.args.taken.unclosed c.args.taken.torn) changes c.args.sink.now k) (search rules) cut
