@@ -1,6 +1,6 @@
 use Rattle.cq_shared.proofs.Calling.{extends}
 use Rattle.cq_serve_kept.proofs.Refusing.{if_some}
-use Rattle.cq_serve_kept.proofs.log.LogKeeper.ask.Goals as goal
+use Rattle.cq_serve_kept.proofs.log.LogKeeperShared.ask.Goals as goal
 
 pub ask-requires : goal.ask-requires
 ask-requires g c = record { of = c.requires.stands.2.is }

@@ -1,7 +1,7 @@
 use Rattle.std.proofs.lemmas.Result.{IfOk-weaker, IfErr-weaker}
 use Rattle.cq_shared.proofs.Calling.{extends}
 use Rattle.cq_serve_kept.proofs.Refusing.{refused_kept}
-use Rattle.cq_serve_kept.proofs.log.LogKeeper.accept.Goals as goal
+use Rattle.cq_serve_kept.proofs.log.LogKeeperShared.accept.Goals as goal
 
 pub accept-requires-clause-of : goal.accept-requires-clause-of
 accept-requires-clause-of g c = c.requires.stands.2.is
