@@ -216,4 +216,4 @@ module _ {W R : Type 0} (hub : Shared W R) (set : Settings) (changes : List Chan
         → (HasTaken hub q set (changes ++ change ∷ []) → Has new set (lines ++ line ∷ []) (changes ++ change ∷ [])) → (result : Bool)
         → TakesAfter hub q set changes change result → takers.TakesAfter Has new set lines changes line change result
     taken_as Has new lines line same true (yes, has) = (yes, same has)
-    taken_as Has new lines line same false no = no
+    taken_as Has new lines line same false unheld = unheld

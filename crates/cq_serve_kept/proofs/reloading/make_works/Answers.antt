@@ -19,13 +19,13 @@ use Rattle.cq_serve_kept.proofs.reloading.make_works.Goals as goal
 pub works-init : goal.works-init
 works-init g c = record { ready = c.requires.ready; still = λ set changes is. is }
 
-pub work_for-work-requires-clause-utf8 : goal.work_for-work-requires-clause-utf8
-work_for-work-requires-clause-utf8 g c =
+pub work_for-requires-clause-utf8 : goal.work_for-requires-clause-utf8
+work_for-requires-clause-utf8 g c =
     let took = rw c.in-Some.is at c.in_ok-job.ensures.taken in
     subst IsUtf8 (sym c.deref.ensures) took.says.3.0
 
-pub work_for-work-requires-clause-short : goal.work_for-work-requires-clause-short
-work_for-work-requires-clause-short g c =
+pub work_for-requires-clause-short : goal.work_for-requires-clause-short
+work_for-requires-clause-short g c =
     let took = rw c.in-Some.is at c.in_ok-job.ensures.taken in
     subst (λ (text : List ℕ). length text ≤ 1048576) (sym c.deref.ensures) took.says.3.1
 
@@ -37,11 +37,11 @@ finish-finished-requires g c =
     let took = rw c.in-Some.is at c.in_ok-job.ensures.taken in
     let seen = subst (λ (h : List Event). IsAccepted (state_of hub h) job.change × ((slot_of (state_of hub h) job.change).change ≡ (slot_of (state_of hub took.mid) job.change).change)) (sym took.seen)
     (doing.accepted_stays (callers_of hub) took.mid (Took (by_of p) job.change ∷ []) job.change took.says.1) in
-    let made = subst₂ (λ (s : Settings) (text : List ℕ). IsWorkOf s job.lang text (arc_value c.in_ok-work.work)) (sym c.works.invariant.ready.settings) c.deref.ensures c.in_ok-work.ensures in
+    let made = subst₂ (λ (s : Settings) (text : List ℕ). IsWorkOf s job.lang text (arc_value c.in_ok-work-in-Some.work)) (sym c.works.invariant.ready.settings) c.deref.ensures c.in_ok-work-in-Some.ensures in
     record {
       of = took.of;
       accepted = seen.0;
-      work = subst (λ (x : Change). IsWorkFor (IsWorkOf (settings_of hub)) x (arc_value c.in_ok-work.work)) (sym seen.1) (job_work (IsWorkOf (settings_of hub)) (state_of hub took.mid) job.change job (arc_value c.in_ok-work.work) refl took.says.2 made);
+      work = subst (λ (x : Change). IsWorkFor (IsWorkOf (settings_of hub)) x (arc_value c.in_ok-work-in-Some.work)) (sym seen.1) (job_work (IsWorkOf (settings_of hub)) (state_of hub took.mid) job.change job (arc_value c.in_ok-work-in-Some.work) refl took.says.2 made);
     }
 
 pub works-preserved : goal.works-preserved

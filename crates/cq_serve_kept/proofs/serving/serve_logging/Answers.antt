@@ -16,6 +16,6 @@ new-log-requires-clause-log g c =
 pub returns-clause-ends : goal.returns-clause-ends
 returns-clause-ends g c =
     let old = c.args.log.sink.now in
-    let log = c.into_log.result.0 in
+    let log = c.into_log-log.result.0 in
     subst (λ (set : Settings). EndsLogged g.K.Sink set [] (accepted c.args.pass.seen) old log.sink.now log.whole) c.requires.settings
-    (ends_logged g.K.Sink g.N.LogOf c.args.hub.now c.requires.cells (accepted c.args.pass.seen) (sym c.requires.before) old log.sink.now (sym c.requires.begun) (sym c.requires.faults) c.into_log.result.1 log.whole c.into_log.ensures.log)
+    (ends_logged g.K.Sink g.N.LogOf c.args.hub.now c.requires.cells (accepted c.args.pass.seen) (sym c.requires.before) old log.sink.now (sym c.requires.begun) (sym c.requires.faults) c.into_log-log.result.1 log.whole c.into_log-log.ensures.log)

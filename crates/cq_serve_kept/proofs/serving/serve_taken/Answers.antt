@@ -22,8 +22,8 @@ passes_of-requires g c =
       room = let room = c.requires.room in omega (arith, left, room);
     }
 
-pub passes_of-2-requires : goal.passes_of-2-requires
-passes_of-2-requires g c =
+pub passes_of-requires-2 : goal.passes_of-requires-2
+passes_of-requires-2 g c =
     let (changes, has) = c.requires.taken in
     let left = room_left c.args.hub.now c.args.ground.now.settings.now changes c.args.taken.pass has in
     let room = c.requires.room in
@@ -39,8 +39,8 @@ split_pass-requires g c =
     let second = c.in_ok-passes_of-2.ensures.room in
     record { of = c.in_ok-passes_of-2.ensures.idle.of; room = omega (arith, left, room, first, second) }
 
-pub returns-in-Err-mend-clause-ends : goal.returns-in-Err-mend-clause-ends
-returns-in-Err-mend-clause-ends g c = λ changes has.
+pub returns-in-Err-mend : goal.returns-in-Err-mend
+returns-in-Err-mend g c = λ changes has.
     let (front, more, parts, sent) = c.in-Err-mend.ensures.bytes in
     mends_front c.args.hub.now c.args.ground.now.settings.now changes c.args.taken.pass has g.K.Sink c.args.sink.now c.mend.new.sink (mending c.args.taken.unclosed c.args.taken.torn) front more parts sent c.in-Err-mend.ensures.cause.failed
 
@@ -74,8 +74,8 @@ serve_logging-requires-clause-own g c κs lives =
 pub serve_logging-requires-clause-few : goal.serve_logging-requires-clause-few
 serve_logging-requires-clause-few g c κs lives = let number = c.in_ok-passes_of-2.ensures.number in let sessions = c.requires.sessions in omega (arith, number, sessions)
 
-pub returns-then-whole-clause-ends : goal.returns-then-whole-clause-ends
-returns-then-whole-clause-ends g c = λ changes has.
+pub returns-then-whole : goal.returns-then-whole
+returns-then-whole g c = λ changes has.
     let set = c.args.ground.now.settings.now in
     let log = c.in_ok-over.over.1 in
     let mid = c.mend.new.sink in
@@ -85,8 +85,8 @@ returns-then-whole-clause-ends g c = λ changes has.
     (subst (λ (cs : List Change). ContinuesWhole g.K.Sink set [] cs mid log.sink.now) (same ∙ has.accepts) logged) in
     subst (λ (k : g.row.K.Denot). ContinuesWhole g.K.Sink set (mending c.args.taken.unclosed c.args.taken.torn) changes c.args.sink.now k) (search rules) whole
 
-pub returns-clause-ends : goal.returns-clause-ends
-returns-clause-ends g c = λ changes has.
+pub returns : goal.returns
+returns g c = λ changes has.
     let set = c.args.ground.now.settings.now in
     let log = c.in_ok-over.over.1 in
     let mid = c.mend.new.sink in
