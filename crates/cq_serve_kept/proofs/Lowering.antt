@@ -27,7 +27,6 @@ use Rattle.cq_hub.specs.Hubs.{Never}
 use Rattle.cq_hub.specs.Says.{HasGreatestFloor, HasPublished, IsNoneFree, IsRefusedFor}
 use Rattle.cq_hub.proofs.Growing.{rises}
 use Rattle.cq_log.specs.Logs.{is_accepted}
-use Rattle.cq_log.specs.Takers as takers
 use Rattle.cq_request.specs.declared.request.Query.{Query}
 use Rattle.cq_request.specs.declared.request.Request.{Request}
 use Rattle.cq_request.specs.declared.request.Request.TheVariants as request
@@ -210,10 +209,9 @@ module _ {W R : Type 0} (hub : Shared W R) (set : Settings) (changes : List Chan
         let absent = absent_anywhere (settings_of hub) changes (state_of hub call.mid).floor (length changes) change (against refused.Absent call (λ is_memory. absurd (cc))) in
         not_then refused.Absent call (λ is_memory. absurd (cc)) (length changes) absent refl
 
-  -- the same as whoever takes changes says it
+  -- the same in the words of whoever takes changes
   module _ (q : BoardPass) (change : Change) where
-    pub taken_as : {T : Type 0} (Has : T → Settings → List (List ℕ) → List Change → Type 0) (new : T) (lines : List (List ℕ)) (line : List ℕ)
-        → (HasTaken hub q set (changes ++ change ∷ []) → Has new set (lines ++ line ∷ []) (changes ++ change ∷ [])) → (result : Bool)
-        → TakesAfter hub q set changes change result → takers.TakesAfter Has new set lines changes line change result
-    taken_as Has new lines line same true (yes, has) = (yes, same has)
-    taken_as Has new lines line same false unheld = unheld
+    pub taken_by : (Says : Bool → Type 0) → ((is_accepted set changes change ≡ true) × HasTaken hub q set (changes ++ change ∷ []) → Says true) → (is_accepted set changes change ≡ false → Says false)
+        → (result : Bool) → TakesAfter hub q set changes change result → Says result
+    taken_by Says if_taken if_refused true taken = if_taken taken
+    taken_by Says if_taken if_refused false unheld = if_refused unheld
