@@ -8,7 +8,7 @@ use cq_chain::Pass;
 use cq_hub::{Hub, Solo, SoloPass};
 use cq_io::{Gate, MemSink, MemSource, OpenGate, Sink, Source};
 use cq_lines::{End, Lines};
-use cq_session::{Server, session};
+use cq_session::{NoLog, Server, session};
 use cq_shared::Shared;
 use cq_work::{Keyer, Work};
 use std::alloc::Global;
@@ -44,6 +44,7 @@ pub fn conversed_over<R: Threads + Sync, L: Ledger, H: Hub<Work<L>>, S: Source, 
         alloc,
         keyer: &keyer,
         hub,
+        keeper: &NoLog,
         gate,
     };
     let end = session(&server, pass, &mut lines, source, sink, steps);

@@ -1,0 +1,5 @@
+pub mod Growing
+mod Saying
+mod Running
+mod Feeds
+pub mod Mended

@@ -1,0 +1,5 @@
+pub mod Logs
+pub mod Mending
+pub mod Takers
+pub mod Laws
+pub mod Worked

@@ -1,0 +1,30 @@
+use Rattle.std.proofs.Common.{refl, subst, ◌∙◌, sym}
+use Rattle.std.proofs.lemmas.Result.{IfOk-weaker}
+use Rattle.cq_base.specs.Settings.{IsInRange}
+use Rattle.cq_serve_kept.proofs.FirstPass.{taken_none}
+use Rattle.cq_serve_kept.proofs.Took.{ends_kept}
+use Rattle.cq_serve_kept.proofs.serving.serve_kept.Goals as goal
+
+pub take_log-requires-clause-ready : goal.take_log-requires-clause-ready
+take_log-requires-clause-ready g c =
+    let made = c.in_ok-made.ensures in
+    record { in_range = subst IsInRange (sym c.plain-keyer.ensures) c.requires.in_range; settings = made.settings ∙ sym c.plain-keyer.ensures; of = made.stands.is }
+
+pub take_log-requires-clause-nothing : goal.take_log-requires-clause-nothing
+take_log-requires-clause-nothing g c =
+    let made = c.in_ok-made.ensures in
+    taken_none c.in_ok-made.made.0 c.args.ground.now.settings.now c.in_ok-made.made.1 made.stands.is made.stands.caller made.accepts made.room.0 made.settings made.stands.seen
+
+pub returns-in-Failed : goal.returns-in-Failed
+returns-in-Failed g c = (refl, rw c.in-Failed.is at c.in_ok-taken.ensures.cause)
+
+pub serve_taken-requires-clause-taken : goal.serve_taken-requires-clause-taken
+serve_taken-requires-clause-taken g c κs lives =
+    let all = rw c.in-All.is at c.in_ok-taken.ensures.takes in
+    (all.has.changes, all.has.has)
+
+pub returns-in-All : goal.returns-in-All
+returns-in-All g c =
+    let all = rw c.in-All.is at c.in_ok-taken.ensures.takes in
+    IfOk-weaker c.serve_taken.result _ _
+    (λ by ends. ends_kept _ g.S.Source g.K.Sink c.args.ground.now.settings.now c.args.source.now c.take_log.new.source c.args.sink.now c.serve_taken.new.sink c.take_log.new.taker c.in-All.unclosed c.in-All.torn all by (ends all.has.changes all.has.has)) c.serve_taken.ensures.ends
