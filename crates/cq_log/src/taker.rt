@@ -17,6 +17,12 @@ pub trait Taker {
     // it may be asked
     ghost ready: { Self → Type 0 };
 
+    // what the changes go into
+    ghost Target: { Type 0 };
+
+    // this is what they go into: the same one at each call
+    ghost target_of: { Self → Target };
+
     /// Takes one change more, which a line says, and answers true; or answers that the change is not accepted. After
     /// `Memory` nothing is known of it.
     fn take(
@@ -30,5 +36,6 @@ pub trait Taker {
         requires sound { IsSoundChange change }
         requires says { line_says settings.now.chunk line.now ≡ Ok (request.Change change) }
         ensures takes { IfOk result (TakesOne Has settings.now self.old self.new line.now change) }
-        ensures ready { OnOk result (ready self.new) };
+        ensures ready { OnOk result (ready self.new) }
+        ensures target { OnOk result (target_of self.new ≡ target_of self.old) };
 }

@@ -39,6 +39,7 @@ fn take_whole<T: Taker>(
     requires short { length line.now ≤ line_limit }
     ensures takes { IfOk result (TakesLine T.Has settings.now false line.now taker.old taker.new) }
     ensures ready { OnOk result (T.ready taker.new) }
+    ensures target { OnOk result (T.target_of taker.new ≡ T.target_of taker.old) }
 {
     match log_line(alloc, settings, line)? {
         LogLine::Change(change) => match taker.take(alloc, settings, change, line) {
@@ -73,6 +74,7 @@ fn take_line<T: Taker>(
     requires short { length line.now ≤ line_limit }
     ensures takes { IfOk result (TakesLine T.Has settings.now torn line.now taker.old taker.new) }
     ensures ready { OnOk result (T.ready taker.new) }
+    ensures target { OnOk result (T.target_of taker.new ≡ T.target_of taker.old) }
 {
     if torn {
         return Ok(mends(line));
@@ -95,6 +97,7 @@ pub fn take_log<T: Taker, S: Source>(
     requires nothing { T.Has taker.old settings.now [] [] }
     ensures takes { IfOk result
         (Takes T.Has settings.now (S.rest source.old) (S.rest source.new) taker.new) }
+    ensures target { OnOk result (T.target_of taker.new ≡ T.target_of taker.old) }
     ensures cause { IfOk result (HasCauseOfTaking (S.faults source.old) (S.faults source.new)) }
 {
     let mut torn = false;

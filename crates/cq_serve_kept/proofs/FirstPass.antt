@@ -49,6 +49,10 @@ accepted_own (Open by p ∷ es) all = accepted_own es all.1 ∙ sym (passed (0 =
 accepted_own (Shut by ∷ es) all = accepted_own es all.1 ∙ sym (passed (0 == by) (Shut by) (own 0 es) refl)
 accepted_own (Floor f ∷ es) all = accepted_own es all.1
 
+-- the hub into which the changes went is this one
+pub taken_into : {W R : Type 0} (there hub : Shared W R) (p : BoardPass) (set : Settings) (changes : List Change) → there ≡ hub → HasTaken there p set changes → HasTaken hub p set changes
+taken_into {W} {R} there hub p set changes same is = subst (λ (h : Shared W R). HasTaken h p set changes) same is
+
 module _ {W R : Type 0} (hub : Shared W R) where
   pub lawful_seen : (p : BoardPass) → IsPassOf hub p → Lawful (settings_of hub) (callers_of hub) p.seen
   lawful_seen p of = of.of.law.lawful

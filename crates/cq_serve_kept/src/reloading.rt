@@ -114,11 +114,17 @@ fn accept_again<L: Ledger, R: Wait>(
 }
 
 impl<'a, L: Ledger, R: Wait> Taker for Reloaded<'a, L, R> {
+    ghost use Rattle.cq_shared.specs.declared.shared.Shared.{Shared as HubOf};
+    ghost use Rattle.cq_work.specs.declared.work.Work.{Work as Made};
     ghost use Rattle.cq_serve_kept.specs.Reloads.{HasTaken, MayReload};
 
     ghost Has = { λ taker set lines changes. HasTaken taker.hub.now taker.pass set changes };
 
     ghost ready = { λ taker. MayReload taker.hub.now taker.keyer.now.settings taker.pass };
+
+    ghost Target = { HubOf (Made L) R };
+
+    ghost target_of = { λ taker. taker.hub.now };
 
     fn take(
         &mut self,

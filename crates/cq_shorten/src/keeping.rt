@@ -91,6 +91,10 @@ impl Taker for Shortener {
 
     ghost ready = { λ taker. Unit {0} };
 
+    ghost Target = { Unit {0} };
+
+    ghost target_of = { λ taker. tt };
+
     fn take(
         &mut self,
         alloc: Global,

@@ -8,6 +8,7 @@ pub lines-init : goal.lines-init
 lines-init g c = record {
   goes = none_taken g.T.Taker.Has c.args.settings.now (g.S.Source.rest c.args.source.now) c.args.lines.now c.args.taker.now c.requires.fresh c.requires.limit c.requires.nothing;
   ready = c.requires.ready;
+  target = refl;
   faults = refl;
   unclosed = sym c.requires.fresh.over;
 }
@@ -36,6 +37,9 @@ returns-in-Ok-None-clause-takes g c =
     let so = c.lines.invariant.goes in
     line_refused g.T.Taker.Has c.args.settings.now _ _ _ _ _ _ _ cuts.got c.in-Line.line.now so cuts.bytes cuts.taken cuts.within cuts.limit (λ e. (cuts.stays e).0) cuts.finds.1 _ (rw c.in-Ok-None.field-0-is at c.in-Ok-None.ensures.takes)
 
+pub returns-in-Ok-None-clause-target : goal.returns-in-Ok-None-clause-target
+returns-in-Ok-None-clause-target g c = c.in-Ok-None.ensures.target ∙ c.lines.invariant.target
+
 pub lines-smaller : goal.lines-smaller
 lines-smaller g c =
     let cuts = rw c.in-Line.is at c.next.follows.holds-at-none in
@@ -49,6 +53,7 @@ lines-preserved g c =
           one_taken g.T.Taker.Has c.args.settings.now _ _ _ _ _ _ _ cuts.got c.in-Line.line.now c.lines.invariant.goes cuts.bytes cuts.taken cuts.within cuts.limit (λ e. (cuts.stays e).0) cuts.finds.1 c.take_line.new.taker c.in-Ok-Some.now
           (rw c.in-Ok-Some.field-0-is at c.in-Ok-Some.ensures.takes);
       ready = c.in-Ok-Some.ensures.ready;
+      target = c.in-Ok-Some.ensures.target ∙ c.lines.invariant.target;
       faults = c.in-Line.ensures.cause ∙ c.lines.invariant.faults;
       unclosed = c.is_over-unclosed.ensures;
     }

@@ -12,16 +12,14 @@ set_floor-requires-clause-low c =
     let same : c.accept.new.self.floor ≡ c.args.self.now.changes.floor = ap (λ (a : Accepted). a.floor) c.in_ok-accept.ensures.more in
     omega (arith, same, c.args.self.now.low, c.len-number.ensures)
 
-pub returns : goal.returns
-returns c = record {
-  takes = λ own changes has.
-      let set = c.args._settings.now in
-      let said = change_of c.in_ok-change.change in
-      let old = c.args.self.now in
-      let at = c.set_floor.new.self in
-      subst (λ (change : Change). (is_accepted set changes change ≡ true) × Has c.ease.new.self set (own ++ c.args.line.now ∷ []) (changes ++ change ∷ [])) c.in_ok-change.ensures.change (
-        none_against set own changes c.args.line.now said old c.ease.new.self has (sym c.is_absent.ensures ∙ c.if-is_absent.false) (sym c.is_full.ensures ∙ c.if-is_full.false) (sym c.is_long.ensures ∙ c.if-is_long.false),
-        has_one_more set own changes c.args.line.now said old c.ease.new.self has c.insert.new.self c.in_ok-line.line at (c.len-number.result + 1) (ap (λ n. n + 1) c.len-number.ensures) c.in_ok-insert.ensures.updates.1 c.in_ok-line.ensures c.in_ok-insert.ensures.updates.2
-            (c.set_floor.ensures ∙ ap (λ (a : Accepted). accepted_from a.settings a.slots (c.len-number.result + 1)) c.in_ok-accept.ensures.more) c.ease.ensures.same c.ease.ensures.lines,
-      );
-}
+pub returns-clause-takes : goal.returns-clause-takes
+returns-clause-takes c = λ own changes has.
+    let set = c.args._settings.now in
+    let said = change_of c.in_ok-change.change in
+    let old = c.args.self.now in
+    let at = c.set_floor.new.self in
+    subst (λ (change : Change). (is_accepted set changes change ≡ true) × Has c.ease.new.self set (own ++ c.args.line.now ∷ []) (changes ++ change ∷ [])) c.in_ok-change.ensures.change (
+      none_against set own changes c.args.line.now said old c.ease.new.self has (sym c.is_absent.ensures ∙ c.if-is_absent.false) (sym c.is_full.ensures ∙ c.if-is_full.false) (sym c.is_long.ensures ∙ c.if-is_long.false),
+      has_one_more set own changes c.args.line.now said old c.ease.new.self has c.insert.new.self c.in_ok-line.line at (c.len-number.result + 1) (ap (λ n. n + 1) c.len-number.ensures) c.in_ok-insert.ensures.updates.1 c.in_ok-line.ensures c.in_ok-insert.ensures.updates.2
+          (c.set_floor.ensures ∙ ap (λ (a : Accepted). accepted_from a.settings a.slots (c.len-number.result + 1)) c.in_ok-accept.ensures.more) c.ease.ensures.same c.ease.ensures.lines,
+    )
