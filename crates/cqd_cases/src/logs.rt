@@ -1,14 +1,13 @@
 ghost use Rattle.std.specs.Prelude.{◌≡◌};
 
-use crate::running::{ends_with, words_of};
-use cq_base::{Memory, Steps, Text};
+use crate::running::{ends_with, exit_of, words_of};
+use cq_base::Memory;
 use cq_io::{MemDoors, MemSink, MemSource, OpenGate};
-use cq_program::top;
 use std::alloc::Global;
 use std::collections::VecDeque;
 use std::marker::Brand;
 use std::sync::Wait;
-use std::sync::ledger::{Blank, Ledger};
+use std::sync::ledger::Blank;
 use std::thread::Threads;
 
 // A server that takes a log and has one client, at most: what the client sends, which write of the log fails and which call of
@@ -23,21 +22,10 @@ struct Logged<'a> {
     status: u8,
 }
 
-const SERVE: [&str; 8] = [
-    "serve",
-    "mem",
-    "--chunk",
-    "2",
-    "--workers",
-    "0",
-    "--sessions",
-    "1",
-];
+const SERVE: &str = "serve mem --chunk 2 --workers 0 --sessions 1";
 
 const PUT: &str = r#"{"op":"put","project":"p","path":"t","lang":"any","text":"a b"}
 "#;
-
-const WHOLE: &str = r#"{"op":"drop","project":"p","path":"t"}"#;
 
 const DROP: &str = r#"{"op":"drop","project":"p","path":"t"}
 "#;
@@ -75,43 +63,28 @@ fn doors_of(alloc: Global, client: Option<&str>, failing: u64) -> Result<MemDoor
     Ok(MemDoors::new(ends, vec![in alloc; failing]?))
 }
 
-fn served<Q: Threads + Wait + Sync, L: Ledger + Send + Sync>(
-    rt: &Q,
-    alloc: Global,
-    words: &[Text],
-    source: &mut MemSource,
-    sink: &mut MemSink,
-    doors: &mut MemDoors,
-    blank: Blank,
-) -> u8
-    requires name { blank.name ≡ L.name }
-    requires parts { blank.parts ≡ L.parts }
-{
-    let mut steps: Steps<L> = Steps::new(blank);
-    top(rt, alloc, words, source, sink, doors, &OpenGate, &mut steps)
-        .status
-        .code()
-}
-
 fn is_logged<Q: Threads + Wait + Sync>(
     rt: &Q,
     alloc: Global,
     run: &Logged<'_>,
 ) -> Result<bool, Memory> {
-    let words = words_of(alloc, &SERVE)?;
+    let words = words_of(alloc, SERVE)?;
     let log = Vec::from_slice(alloc, run.log.as_bytes())?;
     let mut source = MemSource::new(log, 5, Vec::new(alloc));
     let mut sink = MemSink::new(alloc, 65_536, 3, vec![in alloc; run.failing_write]?)?;
     let mut doors = doors_of(alloc, run.client, run.failing_door)?;
-    let status = served::<Q, Brand>(
+    let status = exit_of::<Q, _, _, _, _, _, _, Brand>(
         rt,
         alloc,
         &words,
         &mut source,
         &mut sink,
         &mut doors,
+        &OpenGate,
         Blank::new(1),
-    );
+    )
+    .status
+    .code();
     Ok(status == run.status && sink.written() == run.written.as_bytes())
 }
 
@@ -186,12 +159,6 @@ fn a_log_is_refused_or_breaks(rt: HostRuntime) -> Result<(), Memory> {
         ..NOBODY
     };
     assert!(rt; is_logged(&rt, alloc, &refused)?);
-    let unclosed = Logged {
-        log: WHOLE,
-        failing_door: 1,
-        ..refused
-    };
-    assert!(rt; is_logged(&rt, alloc, &unclosed)?);
     let torn = Logged {
         log: "{",
         client: Some(PUT),
@@ -226,18 +193,11 @@ const TWICE: &[u8] = br#"{"op":"put","project":"p","path":"a","lang":"any","text
 {"op":"drop","project":"p","path":"b"}
 "#;
 
-const SHORT: &[u8] = br#"{"op":"gate","project":"p","conditions":[]}
-{"op":"put","project":"p","path":"a","lang":"any","text":"3"}
-"#;
-
 #[test]
-fn a_log_is_shortened(rt: HostRuntime) -> Result<(), Memory> {
+fn a_log_is_not_shortened_if_a_call_fails(rt: HostRuntime) -> Result<(), Memory> {
     let alloc = rt.alloc();
-    let words = ["shorten", "--chunk", "2"];
-    assert!(rt; ends_with(&rt, alloc, &words, TWICE, 9, (0, 0), SHORT, 0)?);
-    assert!(rt; ends_with(&rt, alloc, &words, SHORT, 1, (0, 0), SHORT, 0)?);
-    assert!(rt; ends_with(&rt, alloc, &words, b"{}\n", 9, (0, 0), b"", 7)?);
-    assert!(rt; ends_with(&rt, alloc, &words, TWICE, 9, (1, 0), b"", 2)?);
-    assert!(rt; ends_with(&rt, alloc, &words, TWICE, 65_536, (0, 1), b"", 3)?);
+    let words = "shorten --chunk 2";
+    assert!(rt; ends_with(&rt, alloc, words, TWICE, 9, (1, 0), b"", 2)?);
+    assert!(rt; ends_with(&rt, alloc, words, TWICE, 65_536, (0, 1), b"", 3)?);
     Ok(())
 }
