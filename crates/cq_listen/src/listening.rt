@@ -132,6 +132,7 @@ pub struct Passes<W: Indexed> {
 /// for the calling thread, and for the queue. What comes back says with what connections were served: the settings, and how
 /// many workers and sessions there were.
 pub fn serve_over<
+    'f,
     Q: Threads + Wait + Sync,
     L: Ledger + Send + Sync,
     R: Wait + Sync,
@@ -141,8 +142,8 @@ pub fn serve_over<
     D: Doors<In = S, Out = K>,
     G: Gate + Sync,
 >(
-    rt: &Q,
-    floor: &Floor<'_, L, R, P, G>,
+    rt: &'f Q,
+    floor: &Floor<'f, L, R, P, G>,
     passes: Passes<Work<L>>,
     doors: &mut D,
 ) -> Result<Served, Memory>

@@ -17,7 +17,7 @@ use Rattle.cq_serve_kept.specs.Reloads.{HasTaken}
 use Rattle.cq_serve_kept.proofs.FirstPass.{lawful_seen}
 
 module _ {K : Type 0} (onto : sink.Ghosts K) (set : Settings) (before : List Change) (old mid now : K) (mended : List ℕ) (sent : Appends (onto.written old) (onto.written mid) mended) where
-  continues_mended : Continues onto set [] before mid now → Continues onto set mended before old now
+  abbrev continues_mended : Continues onto set [] before mid now → Continues onto set mended before old now
   continues_mended is = record {
     lines = is.lines;
     changes = is.changes;
