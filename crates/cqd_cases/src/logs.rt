@@ -1,5 +1,3 @@
-ghost use Rattle.std.specs.Prelude.{◌≡◌};
-
 use crate::running::{ends_with, exit_of, words_of};
 use cq_base::Memory;
 use cq_io::{MemDoors, MemSink, MemSource, OpenGate};
