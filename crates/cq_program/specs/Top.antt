@@ -33,6 +33,7 @@ use Rattle.cq_words.specs.declared.command.Listen.{Listen}
 use Rattle.cq_words.specs.declared.command.Make.{Make}
 use Rattle.cq_words.specs.declared.command.Run.{Run}
 use Rattle.cq_io.specs.Causes.{Rose}
+use Rattle.cq_log.specs.Reads.{ReadsMost, ReadsNone}
 use Rattle.cq_serve_kept.specs.Continued.{ContinuesBroken, ContinuesWhole, TookLog}
 use Rattle.cq_shorten.specs.Shortened.{Shortens}
 use Rattle.cq_shorten.specs.declared.shortening.Shortened.{Shortened}
@@ -165,14 +166,15 @@ module _ (L : Type 0) {S K : Type 0} (from : source.Ghosts S) (onto : sink.Ghost
   ExportsFor words read read_now written written_now status = (asked : Export) → command_of words ≡ Some (command.Export asked) → ExportsFile asked read read_now written written_now status
 
 module _ {S K : Type 0} (from : source.Ghosts S) (onto : sink.Ghosts K) where
-  -- A log was taken, and continued by the lines of the changes that were accepted then; or nothing was written.
+  -- A log was taken, and continued by the lines of the changes that were accepted then; or nothing was written. A line is only refused
+  -- that a log may not have there.
   abbrev pub Logs : Settings → S → S → K → K → Status → Type 0
   Logs set read read_now written written_now ended.Done = TookLog from onto set read read_now written written_now (λ mended before. ContinuesWhole onto set mended before written written_now)
   Logs set read read_now written written_now ended.DoorsFault = TookLog from onto set read read_now written written_now (λ mended before. ContinuesWhole onto set mended before written written_now ⊎ (written_now ≡ written))
   Logs set read read_now written written_now ended.WriteFault = TookLog from onto set read read_now written written_now (λ mended before. ContinuesBroken onto set mended before written written_now)
   Logs set read read_now written written_now ended.ReadFault = (written_now ≡ written) × Rose (from.faults read) (from.faults read_now)
-  Logs set read read_now written written_now ended.LineRefused = written_now ≡ written
-  Logs set read read_now written written_now ended.Spent = written_now ≡ written
+  Logs set read read_now written written_now ended.LineRefused = ReadsNone from set read read_now × (written_now ≡ written)
+  Logs set read read_now written written_now ended.Spent = ReadsMost from set read read_now × (written_now ≡ written)
   Logs set read read_now written written_now ended.Memory = Unit {0}
   Logs set read read_now written written_now _ = ⊥
 

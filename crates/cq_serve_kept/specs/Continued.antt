@@ -13,6 +13,7 @@ use Rattle.cq_lines.specs.Pieces.{ended}
 use Rattle.cq_log.specs.Laws.{ContinueWith}
 use Rattle.cq_log.specs.Logs.{Front, held_by}
 use Rattle.cq_log.specs.Mending.{is_unclosed, mending}
+use Rattle.cq_log.specs.Reads.{ReadsMost, ReadsNone}
 use Rattle.cq_serve_kept.specs.declared.serving.Kept.{Kept}
 use Rattle.cq_serve_kept.specs.declared.serving.Kept.TheVariants as kept
 
@@ -64,11 +65,12 @@ module _ {S K : Type 0} (from : source.Ghosts S) (onto : sink.Ghosts K) (set : S
     pub held : held_by set got ≡ Some front
     pub holds : Holds (mending (is_unclosed got) front.torn) front.changes
 
-  -- by how it ended: the log was continued; or the sink failed; or nothing was written
+  -- By how it ended: the log was continued; or the sink failed; or nothing was written. If a line was refused, there is one that a log
+  -- may not have there.
   abbrev pub EndsKept : Kept → Type 0
   EndsKept (kept.Served served) = TookLog (λ mended before. ContinuesWhole onto set mended before written written_now)
   EndsKept kept.Broken = TookLog (λ mended before. ContinuesBroken onto set mended before written written_now)
   EndsKept kept.Unbound = TookLog (λ mended before. written_now ≡ written)
-  EndsKept kept.Refused = written_now ≡ written
-  EndsKept kept.Spent = written_now ≡ written
+  EndsKept kept.Refused = ReadsNone from set read read_now × (written_now ≡ written)
+  EndsKept kept.Spent = ReadsMost from set read read_now × (written_now ≡ written)
   EndsKept kept.ReadFault = (written_now ≡ written) × Rose (from.faults read) (from.faults read_now)

@@ -9,6 +9,7 @@ use Rattle.cq_io.specs.declared.source.Source as source
 use Rattle.cq_lines.specs.Pieces.{ended}
 use Rattle.cq_lines.specs.declared.ending.End.TheVariants as end
 use Rattle.cq_log.specs.Takers.{TakesAll, TakesMost, TakesRefused}
+use Rattle.cq_log.proofs.Reading.{reads_most, reads_none}
 use Rattle.cq_shorten.specs.Needed.{needed_lines}
 use Rattle.cq_shorten.specs.Keeping.{Has}
 use Rattle.cq_shorten.specs.Shortened.{ReadsLog, Shortens}
@@ -41,7 +42,7 @@ module _ {S K : Type 0} (from : source.Ghosts S) (onto : sink.Ghosts K) (set : S
       (log_read unclosed torn all faults, cut.0, cut.1, cut.2, cut.3, rose)
 
   pub spent : (written : K) → TakesMost Has set (from.rest read) (from.rest read_now) t → from.faults read_now ≡ from.faults read → Shortens from onto set read read_now written written (shortened.Ended end.Spent)
-  spent written most faults = (record { got = most.0.got; bytes = most.0.bytes; most = most.1; faults = faults }, refl)
+  spent written most faults = (reads_most Has from set read read_now t faults most, refl)
 
   pub refused : (written : K) → TakesRefused Has set (from.rest read) (from.rest read_now) t → from.faults read_now ≡ from.faults read → Shortens from onto set read read_now written written shortened.Refused
-  refused written none faults = (record { got = none.got; bytes = none.bytes; faults = faults; lines = none.lines; whole = none.whole; refused = none.refused }, refl)
+  refused written none faults = (reads_none Has from set read read_now t faults none, refl)

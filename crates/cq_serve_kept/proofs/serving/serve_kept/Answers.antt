@@ -1,6 +1,7 @@
 use Rattle.std.proofs.Common.{refl, subst, ◌∙◌, sym}
 use Rattle.std.proofs.lemmas.Result.{IfOk-weaker}
 use Rattle.cq_base.specs.Settings.{IsInRange}
+use Rattle.cq_log.proofs.Reading.{reads_most, reads_none}
 use Rattle.cq_serve_kept.proofs.FirstPass.{taken_into, taken_none}
 use Rattle.cq_serve_kept.proofs.Took.{ends_kept}
 use Rattle.cq_serve_kept.proofs.serving.serve_kept.Goals as goal
@@ -14,6 +15,12 @@ pub take_log-requires-clause-nothing : goal.take_log-requires-clause-nothing
 take_log-requires-clause-nothing g c =
     let made = c.in_ok-made.ensures in
     taken_none c.in_ok-made.made.0 c.args.ground.now.settings.now c.in_ok-made.made.1 made.stands.is made.stands.caller made.accepts made.room.0 made.settings made.stands.seen
+
+pub returns-in-Spent : goal.returns-in-Spent
+returns-in-Spent g c = (reads_most _ g.S.Source c.args.ground.now.settings.now c.args.source.now c.take_log.new.source c.take_log.new.taker (rw c.in-Spent.is at c.in_ok-taken.ensures.cause) (rw c.in-Spent.is at c.in_ok-taken.ensures.takes), refl)
+
+pub returns-in-Refused : goal.returns-in-Refused
+returns-in-Refused g c = (reads_none _ g.S.Source c.args.ground.now.settings.now c.args.source.now c.take_log.new.source c.take_log.new.taker (rw c.in-Refused.is at c.in_ok-taken.ensures.cause) (rw c.in-Refused.is at c.in_ok-taken.ensures.takes), refl)
 
 pub returns-in-Failed : goal.returns-in-Failed
 returns-in-Failed g c = (refl, rw c.in-Failed.is at c.in_ok-taken.ensures.cause)
