@@ -18,6 +18,10 @@ pub on_ok : {T E : Type 0} (r : Result T E) (P Q : Type 0) → (P → Q) → OnO
 on_ok (Ok x) P Q to is = to is
 on_ok (Err e) P Q to is = tt
 
+pub whatever : {T E : Type 0} (r : Result T E) (P : Type 0) → P → OnOk r P
+whatever (Ok x) P is = is
+whatever (Err e) P is = tt
+
 module _ {W R : Type 0} (hub : Shared W R) (p q : BoardPass) (change : Change) where
   pub refused_kept : (Then : Unkept → Type 0) → ((cause : Refused) → Refuses hub p q change cause → Then (unkept.Refused cause)) → (SeesMore hub p q → Then unkept.Broken) → (why : Unkept) → RefusesKept hub p q change why → Then why
   refused_kept Then refuses breaks (unkept.Refused cause) is = refuses cause is

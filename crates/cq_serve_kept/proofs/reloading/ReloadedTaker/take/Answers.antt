@@ -1,10 +1,11 @@
-use Rattle.std.proofs.Common.{◌≡◌, rules, subst}
+use Rattle.std.proofs.Common.{◌≡◌, refl, rules, subst}
 use Rattle.std.proofs.lemmas.Result.{IfOk-weaker}
 use Rattle.cq_board.specs.declared.answers.Refused.{Refused}
 use Rattle.cq_board.specs.declared.answers.Refused.TheVariants as refused
 use Rattle.cq_shared.specs.Answers.{Refuses}
 use Rattle.cq_serve_kept.proofs.Lowering.{accepted_next, refused_absent, taken_by}
 use Rattle.cq_serve_kept.proofs.FirstPass.{taken_waited}
+use Rattle.cq_serve_kept.proofs.Refusing.{whatever}
 use Rattle.cq_serve_kept.proofs.reloading.ReloadedTaker.take.Goals as goal
 
 pub returns-in-Ok-clause-takes : goal.returns-in-Ok-clause-takes
@@ -55,3 +56,9 @@ returns-in-Err-FullText-clause-takes g c =
     IfOk-weaker c.accept_again-in-Err-FullText.result _ _
     (λ result takes lines changes is. taken_by hub set changes q c.args.change _ (λ taken. taken) (λ unheld. unheld) result (takes c.args.change c.requires.says set changes (taken_waited hub set changes c.args.self.now.pass is m _ c.in-Err-FullText.ensures.refused)))
     c.accept_again-in-Err-FullText.ensures.takes
+
+pub returns-in-Err-FullChanges-clause-target : goal.returns-in-Err-FullChanges-clause-target
+returns-in-Err-FullChanges-clause-target g c = whatever c.accept_again.result _ refl
+
+pub returns-in-Err-FullText-clause-target : goal.returns-in-Err-FullText-clause-target
+returns-in-Err-FullText-clause-target g c = whatever c.accept_again-in-Err-FullText.result _ refl
