@@ -237,7 +237,7 @@ pub fn top<
         (D.faults doors.old) (D.faults doors.new) result.status }
 
     // `listen` serves connections under the settings in its arguments, with as many workers and as many sessions as they ask
-    // for, unless memory is refused or the address can't be bound. No other command serves any.
+    // for, unless memory is refused or the address can't be bound. No other command but `serve` serves any.
     ensures served { ServesFor words.now (D.bound doors.old) (D.bound doors.new)
         result.status result.served }
     ensures unserved { connections_of words.now ≡ None → result.served ≡ None }
