@@ -18,3 +18,9 @@ seats-preserved g c =
 
 pub new-requires-clause-idle : goal.new-requires-clause-idle
 new-requires-clause-idle g c = first_idle c.args.floor.now.hub.now (into_iter_items c.seats.own-iterator) (into_iter_items c.next.new.self) c.in-Some.own c.in-Some.ensures.steps.0 c.seats.invariant.idle
+
+pub returns-clause-number : goal.returns-clause-number
+returns-clause-number g c =
+    let number = c.seats.invariant.number in
+    let none = ap length c.in-None.ensures.steps.0 in
+    omega (arith, number, none)
