@@ -3,4 +3,4 @@ mod Saying
 mod Running
 mod Feeds
 pub mod Mended
-pub mod Reading
+pub mod Stopped

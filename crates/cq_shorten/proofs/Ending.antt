@@ -9,7 +9,7 @@ use Rattle.cq_io.specs.declared.source.Source as source
 use Rattle.cq_lines.specs.Pieces.{ended}
 use Rattle.cq_lines.specs.declared.ending.End.TheVariants as end
 use Rattle.cq_log.specs.Takers.{TakesAll, TakesMost, TakesRefused}
-use Rattle.cq_log.proofs.Reading.{reads_most, reads_none}
+use Rattle.cq_log.proofs.Stopped.{reads_most, reads_none}
 use Rattle.cq_shorten.specs.Needed.{needed_lines}
 use Rattle.cq_shorten.specs.Keeping.{Has}
 use Rattle.cq_shorten.specs.Shortened.{ReadsLog, Shortens}

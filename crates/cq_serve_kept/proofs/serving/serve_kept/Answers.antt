@@ -1,7 +1,7 @@
 use Rattle.std.proofs.Common.{refl, subst, ◌∙◌, sym}
 use Rattle.std.proofs.lemmas.Result.{IfOk-weaker}
 use Rattle.cq_base.specs.Settings.{IsInRange}
-use Rattle.cq_log.proofs.Reading.{reads_most, reads_none}
+use Rattle.cq_log.proofs.Stopped.{reads_most, reads_none}
 use Rattle.cq_serve_kept.proofs.FirstPass.{taken_into, taken_none}
 use Rattle.cq_serve_kept.proofs.Took.{ends_kept}
 use Rattle.cq_serve_kept.proofs.serving.serve_kept.Goals as goal
