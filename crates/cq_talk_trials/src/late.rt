@@ -9,7 +9,7 @@ use cq_chain::Pass;
 use cq_io::OpenGate;
 use cq_lines::End;
 use cq_serve::{Turn, turn};
-use cq_session::Server;
+use cq_session::{NoLog, Server};
 use cq_shared::Shared;
 use cq_stage::{Client, ClientSource, Hold, Late, LogSink, Scene, Stage, Until, Who};
 use cq_work::{Keyer, Work};
@@ -57,6 +57,7 @@ fn turned<Q: Wait + Clock, L: Ledger, R: Wait>(
         alloc,
         keyer: &keyer,
         hub,
+        keeper: &NoLog,
         gate: &gate,
     };
     Ok(turn(&server, &mut pass))

@@ -6,7 +6,7 @@ use cq_base::{Memory, Settings, Steps};
 use cq_hub::{Hub, Solo, SoloPass};
 use cq_io::{Gate, MemSink, MemSource, Sink, Source};
 use cq_lines::{End, Lines};
-use cq_session::{Server, session};
+use cq_session::{NoLog, Server, session};
 use cq_work::{Keyer, Work};
 use std::alloc::Global;
 use std::marker::Brand;
@@ -47,6 +47,7 @@ pub fn conversed_over<R: Threads + Sync, L: Ledger, H: Hub<Work<L>>, S: Source, 
         alloc: floor.alloc,
         keyer: &keyer,
         hub: floor.hub,
+        keeper: &NoLog,
         gate: floor.gate,
     };
     let end = session(&server, pass, &mut lines, source, sink, steps);

@@ -119,7 +119,7 @@ const SETTINGS: Settings = Settings {
 fn one_that_waits_goes_on(rt: HostRuntime) -> Result<(), Fail> {
     let board = Board::new(rt.alloc(), &SETTINGS, 3)?;
     let shards = shards_of(rt.alloc(), 2)?;
-    let (cells, mut pass): (_, Pass<Bare>) = Cells::new(&rt, rt.alloc(), board, shards)?;
+    let (cells, mut pass): (_, Pass<Bare>) = Cells::new(&rt, rt.alloc(), board, shards, false)?;
     hold_in_turn(&rt, &cells, &mut pass);
     assert_eq!(rt; told(&cells, &mut pass, 1), (0, 0));
     pass.count_reads(1);

@@ -5,6 +5,7 @@ use cq_base::{Counters, Memory, Settings, Text};
 use cq_chain::Pass;
 use cq_io::{Doors, Failed, Gate, Sink, Source};
 use cq_listen::{Floor, Served, serve};
+use cq_session::NoLog;
 use cq_shared::Shared;
 use cq_stage::{Client, Hold, Late, LogDoors, Scene, Stage};
 use cq_work::Work;
@@ -91,6 +92,7 @@ fn served<
         settings,
         counters: &counters,
         hub: &hub,
+        keeper: &NoLog,
         gate,
     };
     serve(rt, &floor, pass, doors, workers, sessions)

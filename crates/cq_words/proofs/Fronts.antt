@@ -185,6 +185,11 @@ all_there verb.Listen items = sym (map_some command.Listen (listen_made (setting
     ∙ ap (λ b. b && (is_some (text_from param.Address items) && (is_there items param.ListenWorkers && (is_there items param.Sessions && is_there items param.Connections)))) (settings_there items)
     ∙ last_three (is_there items param.Chunk) (is_there items param.Shards) (is_there items param.KeyBits) (is_there items param.ChangeLimit) (is_there items param.TextLimit) (is_there items param.ByteLimit)
     (is_some (text_from param.Address items)) (is_there items param.ListenWorkers) (is_there items param.Sessions) (is_there items param.Connections))
+all_there verb.Serve items = sym (map_some command.Serve (listen_made (settings_from items) (text_from param.Address items) (number_from param.ListenWorkers items) (number_from param.Sessions items) (number_from param.Connections items))
+    ∙ listen_some (settings_from items) (text_from param.Address items) (number_from param.ListenWorkers items) (number_from param.Sessions items) (number_from param.Connections items)
+    ∙ ap (λ b. b && (is_some (text_from param.Address items) && (is_there items param.ListenWorkers && (is_there items param.Sessions && is_there items param.Connections)))) (settings_there items)
+    ∙ last_three (is_there items param.Chunk) (is_there items param.Shards) (is_there items param.KeyBits) (is_there items param.ChangeLimit) (is_there items param.TextLimit) (is_there items param.ByteLimit)
+    (is_some (text_from param.Address items)) (is_there items param.ListenWorkers) (is_there items param.Sessions) (is_there items param.Connections))
 all_there verb.Drive items = sym (map_some command.Drive (settings_from items) ∙ settings_there items
     ∙ no_last (is_there items param.Chunk) (is_there items param.Shards) (is_there items param.KeyBits) (is_there items param.ChangeLimit) (is_there items param.TextLimit) (is_there items param.ByteLimit))
 all_there verb.Make items = sym (map_some command.Make (make_made (number_from param.Number items) (number_from param.Files items))
@@ -195,6 +200,8 @@ all_there verb.Export items = sym (map_some command.Export (export_made (setting
     ∙ ap (λ b. b && is_some (text_from param.Project items)) (settings_there items)
     ∙ with_text (is_there items param.Chunk) (is_there items param.Shards) (is_there items param.KeyBits) (is_there items param.ChangeLimit) (is_there items param.TextLimit) (is_there items param.ByteLimit) (is_some (text_from param.Project items)))
 all_there verb.Ask items = sym (map_some command.Ask (settings_from items) ∙ settings_there items
+    ∙ no_last (is_there items param.Chunk) (is_there items param.Shards) (is_there items param.KeyBits) (is_there items param.ChangeLimit) (is_there items param.TextLimit) (is_there items param.ByteLimit))
+all_there verb.Shorten items = sym (map_some command.Shorten (settings_from items) ∙ settings_there items
     ∙ no_last (is_there items param.Chunk) (is_there items param.Shards) (is_there items param.KeyBits) (is_there items param.ChangeLimit) (is_there items param.TextLimit) (is_there items param.ByteLimit))
 
 -- a positional's value is there only where its item is
@@ -209,6 +216,7 @@ placed : (v : Verb) (items : List Item) → cond (list_all (has_item items) (row
 placed verb.Run items = refl
 placed verb.Drive items = refl
 placed verb.Ask items = refl
+placed verb.Shorten items = refl
 placed verb.Listen items = there (has_item items (param_name param.Address)) refl
   where
     from_parts : Option Settings → Option Word → Option Command
@@ -219,6 +227,18 @@ placed verb.Listen items = there (has_item items (param_name param.Address)) ref
     no_address (Some s) = refl
 
     there : (a : Bool) → has_item items (param_name param.Address) ≡ a → cond (a && true) (command_from verb.Listen items) None ≡ command_from verb.Listen items
+    there true address = refl
+    there false address = sym (ap (λ x. from_parts (settings_from items) (text_or param.Address x)) (item_missing (param_name param.Address) items address) ∙ no_address (settings_from items))
+placed verb.Serve items = there (has_item items (param_name param.Address)) refl
+  where
+    from_parts : Option Settings → Option Word → Option Command
+    from_parts settings address = option_map command.Serve (listen_made settings address (number_from param.ListenWorkers items) (number_from param.Sessions items) (number_from param.Connections items))
+
+    no_address : (settings : Option Settings) → from_parts settings None ≡ None
+    no_address None = refl
+    no_address (Some s) = refl
+
+    there : (a : Bool) → has_item items (param_name param.Address) ≡ a → cond (a && true) (command_from verb.Serve items) None ≡ command_from verb.Serve items
     there true address = refl
     there false address = sym (ap (λ x. from_parts (settings_from items) (text_or param.Address x)) (item_missing (param_name param.Address) items address) ∙ no_address (settings_from items))
 placed verb.Export items = there (has_item items (param_name param.Project)) refl

@@ -11,6 +11,8 @@ mod failing;
 #[cfg(test)]
 mod kept;
 #[cfg(test)]
+mod logs;
+#[cfg(test)]
 mod options;
 #[cfg(test)]
 mod projects;
