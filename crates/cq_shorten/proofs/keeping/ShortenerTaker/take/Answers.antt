@@ -14,11 +14,11 @@ returns-then-is_absent-clause-takes c = λ own changes has.
     let old = c.args.self.now in
     subst (λ (change : Change). is_accepted c.args._settings.now changes change ≡ false) c.in_ok-change.ensures.change
     (some_against c.args._settings.now own changes c.args.line.now said old old has (
-      elim c.then-is_absent.branch [
-        | then-is_absent-via-then-is_absent w ↦ inl (sym c.is_absent.ensures ∙ w.if-is_absent.true)
-        | then-is_absent-via-else-is_absent+then-is_full w ↦ inr (inl (sym w.is_full.ensures ∙ w.if-is_full.true))
-        | then-is_absent-via-else-is_absent+else-is_full+then-is_long w ↦ inr (inr (sym w.is_long.ensures ∙ w.if-is_long.true))
-      ],
+    elim c.then-is_absent.branch [
+      | then-is_absent-via-then-is_absent w ↦ inl (sym c.is_absent.ensures ∙ w.if-is_absent.true)
+      | then-is_absent-via-else-is_absent+then-is_full w ↦ inr (inl (sym w.is_full.ensures ∙ w.if-is_full.true))
+      | then-is_absent-via-else-is_absent+else-is_full+then-is_long w ↦ inr (inr (sym w.is_long.ensures ∙ w.if-is_long.true))
+    ]
     ))
 
 pub set_floor-requires-clause-low : goal.set_floor-requires-clause-low
