@@ -1,6 +1,5 @@
 -- The lines that are needed, up to one number after the other.
 use Rattle.std.proofs.Common.{◌≡◌, ℕ, ◌-◌, ◌<◌, ◌≤◌, Bool, cond, nat_le, List, [], ◌∷◌, ◌++◌, length, map, flat_map, filter, get_or, Option, Some, None, refl, sym, ap, ap₂, ◌∙◌, subst, ⊎_elim, append_assoc, append-nil, Bor, arith}
-use mathlib.Core.Option.{some-injective}
 use Rattle.std.specs.Prelude.{AllPairs, Contains, Vec, option_copied}
 use Rattle.std.specs.BTreeMap.{get}
 use Rattle.std.specs.Ordering.{nat_cmp}
@@ -130,7 +129,8 @@ module _ (s : Shortener) (set : Settings) (own : List (List ℕ)) (changes : Lis
 module _ (s : Shortener) (number : ℕ) (found : Option (Bor (Vec ℕ Global))) (at : option_copied found ≡ get nat_cmp s.lines number) where
   pub found_held : (k : Bor (Vec ℕ Global)) → found ≡ Some k → (line : List ℕ) → HasLine s number line → k.now.items ≡ line
   found_held k is line has =
-      let same : k.now ≡ has.0 = some-injective k.now has.0 (sym (ap option_copied is) ∙ at ∙ has.1) in
+      let both : Some k.now ≡ Some has.0 = sym (ap option_copied is) ∙ at ∙ has.1 in
+      let same : k.now ≡ has.0 = cc in
       ap (λ (v : Vec ℕ Global). v.items) same ∙ has.2
 
   -- and if nothing is found, none is
