@@ -16,12 +16,16 @@ use Rattle.cq_history.proofs.Forgetting.{stays_gone}
 use Rattle.cq_history.specs.Gone.{IsKept}
 use Rattle.cq_history.specs.Lawful.{is_absent, is_full, is_long}
 use Rattle.cq_history.specs.State.{new_slot}
-use Rattle.cq_kept.specs.Accepted.{Accepted, Holds, accepted_from, bare_state}
+use Rattle.cq_kept.specs.Accepted.{Accepted, Holds, accepted_from, bare_state, with_accepted}
 use Rattle.cq_log.specs.Logs.{is_accepted}
 use Rattle.cq_shorten.proofs.Deciding.{accepted_without, refused_with}
 use Rattle.cq_shorten.specs.Keeping.{Has, HasLine}
 use Rattle.cq_shorten.specs.declared.held.Shortener.{Shortener}
 use Rattle.cq_talk.proofs.Causing.{changes_new}
+
+-- one change more was accepted
+pub one_longer : (old new : Accepted) (change : Change) → new ≡ with_accepted old change → length new.slots ≡ length old.slots + 1
+one_longer old new change is = ap (λ (a : Accepted). length a.slots) is ∙ length-append old.slots (new_slot change ∷ [])
 
 module _ (set : Settings) (own : List (List ℕ)) (changes : List Change) (line : List ℕ) (change : Change) (old new : Shortener) (has : Has old set own changes) where
   -- no test was passed, so it is accepted

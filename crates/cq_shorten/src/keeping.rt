@@ -110,9 +110,9 @@ impl Taker for Shortener {
             return Ok(false);
         }
         let line = copied(alloc, line)?;
-        let number = self.changes.len() + 1;
-        self.lines.insert(number, line)?;
         self.changes.accept(change)?;
+        let number = self.changes.len();
+        self.lines.insert(number, line)?;
         self.changes.set_floor(number);
         self.ease();
         Ok(true)
