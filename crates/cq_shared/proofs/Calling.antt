@@ -31,7 +31,7 @@ use Rattle.cq_shared.specs.declared.shared.Shared.{Shared}
 use Rattle.cq_shared.specs.declared.deed.Deed.{Deed}
 use Rattle.cq_shared.specs.declared.deed.Deed.TheVariants as deed
 use Rattle.cq_shared.specs.Deeds.{event_of, asks_of}
-use Rattle.cq_shared.specs.SharedPasses.{IsPassOf, MayAccept, SharedStands, cells_of, callers_of, ended_in, state_of}
+use Rattle.cq_shared.specs.SharedPasses.{IsPassOf, SharedStands, cells_of, callers_of, ended_in, state_of}
 use Rattle.cq_shared.specs.Calls.{Calls}
 
 -- ---- the board in hand
@@ -58,10 +58,6 @@ may_add cells p (deed.Floor f) reach = record { maker = tt; accepts = λ only. (
 
 pub may_accept : (cells : BoardCells) (p : BoardPass) (change : Change) → (cells.about.first_only ≡ true → by_of p ≡ 0) → MayAdd cells p (Accept (by_of p) change)
 may_accept cells p change may = record { maker = refl; accepts = λ only. (may only, tt); applied = λ s near. omega arith }
-
--- a pass of the same caller may accept, too
-pub may_still : {W R : Type 0} (hub : Shared W R) (p q : BoardPass) → q.callers ≡ p.callers → MayAccept hub p → MayAccept hub q
-may_still hub p q same may = λ only. ap (λ cs. slice_index cs 0) same ∙ may only
 
 -- ---- the events of a caller that ended
 
