@@ -95,7 +95,7 @@ module _ {W R : Type 0} (hub : Shared W R) (set : Settings) (changes : List Chan
       (λ took. Contains-nil (Took (suc c) r) (subst (λ (es : List Event). Contains es (Took (suc c) r)) (none_other hub set changes p is (suc c) (omega arith)) took))
       (taken_since (settings_of hub) (callers_of hub) [] p.seen (suc c) r (lawful_seen hub p is.of) taken)
 
-  -- where no change is neither done nor taken, all are done
+  -- if no change is neither done nor taken, all are done
   all_done : (p : BoardPass) → HasTaken hub p set changes → IsNoneFree (state_of hub p.seen) → IsDone hub p
   all_done p is none =
       let s = state_of hub p.seen in
