@@ -142,17 +142,17 @@ module _ {R : Type 0} (line_of : R → List ℕ) {X : Type 0} (Holds : X → Typ
       let (x, holds, served) = served_by limit rest_now before written_now is.got by is.served in
       (x, holds, record { got = is.got; bytes = is.bytes; served = served })
 
--- ---- the same, where the answering may have stopped at a line
+-- ---- the same, if the answering may have stopped at a line
 
 module _ {S K : Type 0} (from : source.Ghosts S) (onto : sink.Ghosts K) {R C : Type 0} (line_of : R → List ℕ) where
-  -- where the replies are also of another kind
+  -- if the replies are also of another kind
   module _ (Was Are : List (List ℕ) → List R → Type 0) (WasStopped HasStopped : List (List ℕ) → List R → C → Type 0) (to : (lines : List (List ℕ)) (replies : List R) → Was lines replies → Are lines replies)
       (to_stopped : (lines : List (List ℕ)) (replies : List R) (cause : C) → WasStopped lines replies cause → HasStopped lines replies cause) where
     pub until_as : (limit : ℕ) (read read_now : S) (written written_now : K) (result : Result End C) → ServesLinesUntil from onto line_of Was WasStopped limit read read_now written written_now result → ServesLinesUntil from onto line_of Are HasStopped limit read read_now written written_now result
     until_as limit read read_now written written_now (Ok by) is = serves_as line_of Was Are to limit (from.rest read) (from.rest read_now) (onto.written written) (onto.written written_now) by is
     until_as limit read read_now written written_now (Err cause) is = record { got = is.got; bytes = is.bytes; within = is.within; lines = is.lines; whole = is.whole; replies = is.replies; stopped = to_stopped is.lines is.replies cause is.stopped; written = is.written }
 
-  -- where they are by something that doesn't speak of lines
+  -- if they are by something that doesn't speak of lines
   module _ {X : Type 0} (Holds : X → Type 0) (Are : X → List (List ℕ) → List R → Type 0) (HasStopped : X → List (List ℕ) → List R → C → Type 0) where
     abbrev StoppedBy : List (List ℕ) → List R → C → Type 0
     StoppedBy lines replies cause = (x : X) × Holds x × HasStopped x lines replies cause

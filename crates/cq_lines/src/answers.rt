@@ -55,7 +55,7 @@ pub trait AnswersUntil {
     // from such a beginning, between what it was first and what it is now, these lines have these replies
     ghost AreReplies: { Beginning → Self → Self → List (List ℕ) → List Reply → Type 0 };
 
-    // the same, where it stopped, for this cause, at the last of these lines
+    // the same, if it stopped, for this cause, at the last of these lines
     ghost HasStopped: { Beginning → Self → Self → List (List ℕ) → List Reply → Self.Stop → Type 0 };
 
     // it may be asked

@@ -1,5 +1,6 @@
 -- What lines hold, as more lines come.
-use Rattle.std.proofs.Common.{◌≡◌, ℕ, Bool, true, false, if◌then◌else◌, List, [], ◌∷◌, ◌++◌, fold, Option, Some, None, Ok, Err, refl, sym, ap, ◌∙◌, append_assoc, append-nil}
+use Rattle.std.proofs.Common.{◌≡◌, ℕ, Bool, true, false, if◌then◌else◌, List, [], ◌∷◌, ◌++◌, fold, Option, Some, None, Ok, Err, refl, sym, ap, ◌∙◌, subst, append_assoc, append-nil}
+use Rattle.std.specs.List.{AllByRecursion}
 use Rattle.std.proofs.lemmas.List.Sums.{fold-append}
 use Rattle.cq_base.specs.declared.change.Change.{Change}
 use Rattle.cq_base.specs.declared.settings.Settings.{Settings}
@@ -31,55 +32,72 @@ module _ (set : Settings) where
   none_stays [] = refl
   none_stays (line ∷ more) = none_stays more
 
-  -- a line adds a change at the end, or none
-  torn_grows : (front : Front) (line : List ℕ) (now : Front) → after_torn front line ≡ Some now → Later front.changes now.changes
-  torn_grows front [] now is =
-      let same : front_of front.own front.changes false ≡ now = cc in
-      same_later front.changes now.changes (ap (λ (f : Front). f.changes) same)
-  torn_grows front (b ∷ line) now is = absurd (cc)
-
-  accepted_grows : (front : Front) (line : List ℕ) (change : Change) (b : Bool) (now : Front) → (if b then Some (front_of (front.own ++ line ∷ []) (front.changes ++ change ∷ []) false) else None) ≡ Some now → Later front.changes now.changes
-  accepted_grows front line change true now is =
+-- What holds of what lines hold, if each line that is accepted keeps it, and so does each that changes only whether the last line
+-- was cut off.
+module _ (set : Settings) (Is : List ℕ → Type 0) (P : Front → Type 0)
+    (takes : (front : Front) (line : List ℕ) (change : Change) → Is line → P front → said set.chunk line ≡ Read (Ok (request.Change change)) → is_accepted set front.changes change ≡ true → P (front_of (front.own ++ line ∷ []) (front.changes ++ change ∷ []) false))
+    (turns : (front : Front) (torn : Bool) → P front → P (front_of front.own front.changes torn)) where
+  accepted_is : (front : Front) (line : List ℕ) (change : Change) (now : Front) → said set.chunk line ≡ Read (Ok (request.Change change)) → Is line → P front → (b : Bool) → is_accepted set front.changes change ≡ b
+      → (if b then Some (front_of (front.own ++ line ∷ []) (front.changes ++ change ∷ []) false) else None) ≡ Some now → P now
+  accepted_is front line change now says here so true accepted is =
       let same : front_of (front.own ++ line ∷ []) (front.changes ++ change ∷ []) false ≡ now = cc in
-      (change ∷ [], ap (λ (f : Front). f.changes) same)
-  accepted_grows front line change false now is = absurd (cc)
+      subst P same (takes front line change here so says accepted)
+  accepted_is front line change now says here so false accepted is = absurd (cc)
 
-  cut_off_grows : (front : Front) (b : Bool) (now : Front) → (if b then Some (front_of front.own front.changes true) else None) ≡ Some now → Later front.changes now.changes
-  cut_off_grows front true now is =
+  cut_off_is : (front : Front) (b : Bool) (now : Front) → P front → (if b then Some (front_of front.own front.changes true) else None) ≡ Some now → P now
+  cut_off_is front true now so is =
       let same : front_of front.own front.changes true ≡ now = cc in
-      same_later front.changes now.changes (ap (λ (f : Front). f.changes) same)
-  cut_off_grows front false now is = absurd (cc)
+      subst P same (turns front true so)
+  cut_off_is front false now so is = absurd (cc)
 
-  whole_grows : (front : Front) (line : List ℕ) (says : Said) (now : Front) → after_whole set front line says ≡ Some now → Later front.changes now.changes
-  whole_grows front line TooLong now is = absurd (cc)
-  whole_grows front line (Read (Ok (request.Change change))) now is = accepted_grows front line change (is_accepted set front.changes change) now is
-  whole_grows front line (Read (Ok (request.Query query))) now is = absurd (cc)
-  whole_grows front line (Read (Ok request.State)) now is = absurd (cc)
-  whole_grows front line (Read (Err why)) now is = cut_off_grows front (is_torn why) now is
+  torn_is : (front : Front) (line : List ℕ) (now : Front) → P front → after_torn front line ≡ Some now → P now
+  torn_is front [] now so is =
+      let same : front_of front.own front.changes false ≡ now = cc in
+      subst P same (turns front false so)
+  torn_is front (b ∷ line) now so is = absurd (cc)
 
-  by_torn : (front : Front) (torn : Bool) (line : List ℕ) (now : Front) → (if torn then after_torn front line else after_whole set front line (said set.chunk line)) ≡ Some now → Later front.changes now.changes
-  by_torn front true line now is = torn_grows front line now is
-  by_torn front false line now is = whole_grows front line (said set.chunk line) now is
+  whole_is : (front : Front) (line : List ℕ) (says : Said) (now : Front) → said set.chunk line ≡ says → Is line → P front → after_whole set front line says ≡ Some now → P now
+  whole_is front line TooLong now says here so is = absurd (cc)
+  whole_is front line (Read (Ok (request.Change change))) now says here so is = accepted_is front line change now says here so (is_accepted set front.changes change) refl is
+  whole_is front line (Read (Ok (request.Query query))) now says here so is = absurd (cc)
+  whole_is front line (Read (Ok request.State)) now says here so is = absurd (cc)
+  whole_is front line (Read (Err why)) now says here so is = cut_off_is front (is_torn why) now so is
 
-  line_grows : (front : Front) (line : List ℕ) (now : Front) → after_line set front line ≡ Some now → Later front.changes now.changes
-  line_grows front line now is = by_torn front front.torn line now is
+  by_torn : (front : Front) (torn : Bool) (line : List ℕ) (now : Front) → Is line → P front → (if torn then after_torn front line else after_whole set front line (said set.chunk line)) ≡ Some now → P now
+  by_torn front true line now here so is = torn_is front line now so is
+  by_torn front false line now here so is = whole_is front line (said set.chunk line) now refl here so is
 
-  lines_grow_on : (front now : Front) (line : List ℕ) (more : List (List ℕ)) (o : Option Front) → after_line set front line ≡ o → fold (onto set) o more ≡ Some now
-      → ((mid : Front) → fold (onto set) (Some mid) more ≡ Some now → Later mid.changes now.changes) → Later front.changes now.changes
-  lines_grow_on front now line more None is held rest = let none : None ≡ Some now = sym (none_stays more) ∙ held in absurd (cc)
-  lines_grow_on front now line more (Some mid) is held rest = later_later front.changes mid.changes now.changes (line_grows front line mid is) (rest mid held)
+  line_is : (front : Front) (line : List ℕ) (now : Front) → Is line → P front → after_line set front line ≡ Some now → P now
+  line_is front line now here so is = by_torn front front.torn line now here so is
 
-  pub lines_grow : (more : List (List ℕ)) (front now : Front) → fold (onto set) (Some front) more ≡ Some now → Later front.changes now.changes
-  lines_grow [] front now held =
+  lines_are_on : (now : Front) (more : List (List ℕ)) (o : Option Front) → fold (onto set) o more ≡ Some now → ((mid : Front) → o ≡ Some mid → fold (onto set) (Some mid) more ≡ Some now → P now) → P now
+  lines_are_on now more None held rest = let none : None ≡ Some now = sym (none_stays set more) ∙ held in absurd (cc)
+  lines_are_on now more (Some mid) held rest = rest mid refl held
+
+  pub lines_are : (more : List (List ℕ)) (front now : Front) → AllByRecursion Is more → P front → fold (onto set) (Some front) more ≡ Some now → P now
+  lines_are [] front now all so held =
       let same : front ≡ now = cc in
-      same_later front.changes now.changes (ap (λ (f : Front). f.changes) same)
-  lines_grow (line ∷ more) front now held = lines_grow_on front now line more (after_line set front line) refl held (λ mid. lines_grow more mid now)
+      subst P same so
+  lines_are (line ∷ more) front now all so held =
+      lines_are_on now more (after_line set front line) held (λ mid is rest. lines_are more mid now all.1 (line_is front line mid all.0 so is) rest)
+
+-- of any lines
+any_lines : (lines : List (List ℕ)) → AllByRecursion (λ _. Unit {0}) lines
+any_lines [] = tt
+any_lines (line ∷ lines) = (tt, any_lines lines)
+
+module _ (set : Settings) where
+  pub lines_grow : (more : List (List ℕ)) (front now : Front) → fold (onto set) (Some front) more ≡ Some now → Later front.changes now.changes
+  lines_grow more front now held =
+      lines_are set (λ _. Unit {0}) (λ mid. Later front.changes mid.changes)
+      (λ mid line change here later says accepted. later_later front.changes mid.changes (mid.changes ++ change ∷ []) later (change ∷ [], refl)) (λ mid torn later. later)
+      more front now (any_lines more) (same_later front.changes front.changes refl) held
 
   first_of_more : (lines more : List (List ℕ)) (now : Front) (o : Option Front) → held_in set lines ≡ o → fold (onto set) o more ≡ Some now → HoldsFirst set lines now.changes
-  first_of_more lines more now None is held = let none : None ≡ Some now = sym (none_stays more) ∙ held in absurd (cc)
+  first_of_more lines more now None is held = let none : None ≡ Some now = sym (none_stays set more) ∙ held in absurd (cc)
   first_of_more lines more now (Some front) is held =
       let grown = lines_grow more front now held in
       record { front = front; held = is; later = grown.0; parts = grown.1 }
 
   pub log_grows : (lines more : List (List ℕ)) (now : Front) → held_in set (lines ++ more) ≡ Some now → HoldsFirst set lines now.changes
-  log_grows lines more now held = first_of_more lines more now (held_in set lines) refl (sym (held_more lines more) ∙ held)
+  log_grows lines more now held = first_of_more lines more now (held_in set lines) refl (sym (held_more set lines more) ∙ held)

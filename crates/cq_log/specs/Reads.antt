@@ -16,7 +16,7 @@ module _ {S : Type 0} (from : source.Ghosts S) (set : Settings) where
     pub whole : AreWhole set.byte_limit (from.rest read_now) got lines
     pub refused : held_in set lines ≡ None
 
-  -- so many bytes came as may
+  -- as many bytes came as may
   pub record ReadsMost (read read_now : S) : Type 0 where
     pub got : List ℕ
     pub bytes : Consumes (from.rest read) (from.rest read_now) got

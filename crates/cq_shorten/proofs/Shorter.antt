@@ -1,5 +1,5 @@
 -- The lines that are needed are a log of their own: each says its change, and each change is accepted after those before it.
-use Rattle.std.proofs.Common.{◌≡◌, ◌≢◌, ℕ, zero, suc, ◌+◌, ◌-◌, ◌<◌, ◌≤◌, ◌^◌, Bool, true, false, cond, if◌then◌else◌, eqb, nat_le, List, [], ◌∷◌, ◌++◌, length, map, flat_map, fold, drop, take, get_or, Option, Some, None, Ok, Err, refl, sym, ap, ◌∙◌, subst, ⊎_elim, append_assoc, length-append, arith}
+use Rattle.std.proofs.Common.{◌≡◌, ◌≢◌, ℕ, zero, suc, ◌+◌, ◌-◌, ◌<◌, ◌≤◌, ◌^◌, Bool, true, false, cond, eqb, nat_le, List, [], ◌∷◌, ◌++◌, length, map, flat_map, drop, take, get_or, Some, Ok, refl, sym, ap, ◌∙◌, subst, ⊎_elim, append_assoc, length-append, arith}
 use Rattle.std.specs.Prelude.{Contains, sum_by}
 use Rattle.std.specs.List.{AllByRecursion}
 use Rattle.std.proofs.Math.ListN.{get_or-append}
@@ -17,16 +17,16 @@ use Rattle.cq_history.specs.Gone.{IsKept, bytes_at, is_over, kept_bytes, kept_co
 use Rattle.cq_history.specs.Lawful.{is_absent, is_full, is_long, kept_changes, kept_text_bytes}
 use Rattle.cq_history.specs.State.{State, new_slot}
 use Rattle.cq_lines.specs.Pieces.{HasNoFeed, ended, split, onto_split, last_line, all_lines}
-use Rattle.cq_log.proofs.Growing.{none_stays}
+use Rattle.cq_log.proofs.Growing.{lines_are}
 use Rattle.cq_log.proofs.Mended.{continued}
 use Rattle.cq_log.specs.Laws.{ContinueWith, IsMended}
-use Rattle.cq_log.specs.Logs.{Front, front_of, no_front, is_accepted, is_torn, after_line, after_torn, after_whole, onto, held_by}
+use Rattle.cq_log.specs.Logs.{Front, front_of, no_front, is_accepted, held_by}
 use Rattle.cq_shorten.specs.Needed.{needed, needed_changes, needed_lines}
 use Rattle.cq_request.specs.declared.request.Request.TheVariants as request
 use Rattle.cq_shorten.proofs.Deciding.{accepted_without, none_passed}
 use Rattle.cq_talk.proofs.Causing.{changes_new}
 use Rattle.cq_talk.specs.Causes.{state_at}
-use Rattle.cq_talk.specs.Said.{Said, TooLong, Read, said}
+use Rattle.cq_talk.specs.Said.{Read, said}
 
 -- ---- no line of bytes has a line feed
 
@@ -128,52 +128,6 @@ module _ (set : Settings) where
           short = omega (arith, falls.1, more.2, sum, fit);
         }
 
-  -- ---- line by line
-
-  accepted_is : (front : Front) (line : List ℕ) (change : Change) (now : Front) → said set.chunk line ≡ Read (Ok (request.Change change)) → HasNoFeed line → IsLog set front.own front.changes → (b : Bool) → is_accepted set front.changes change ≡ b
-      → (if b then Some (front_of (front.own ++ line ∷ []) (front.changes ++ change ∷ []) false) else None) ≡ Some now → IsLog set now.own now.changes
-  accepted_is front line change now says clean log true accepted is =
-      let same : front_of (front.own ++ line ∷ []) (front.changes ++ change ∷ []) false ≡ now = cc in
-      subst (λ (f : Front). IsLog set f.own f.changes) same (one_more_is front.own front.changes line change says clean log accepted)
-  accepted_is front line change now says clean log false accepted is = absurd (cc)
-
-  cut_off_is : (front : Front) (b : Bool) (now : Front) → IsLog set front.own front.changes → (if b then Some (front_of front.own front.changes true) else None) ≡ Some now → IsLog set now.own now.changes
-  cut_off_is front true now log is =
-      let same : front_of front.own front.changes true ≡ now = cc in
-      subst (λ (f : Front). IsLog set f.own f.changes) same log
-  cut_off_is front false now log is = absurd (cc)
-
-  torn_is : (front : Front) (line : List ℕ) (now : Front) → IsLog set front.own front.changes → after_torn front line ≡ Some now → IsLog set now.own now.changes
-  torn_is front [] now log is =
-      let same : front_of front.own front.changes false ≡ now = cc in
-      subst (λ (f : Front). IsLog set f.own f.changes) same log
-  torn_is front (b ∷ line) now log is = absurd (cc)
-
-  whole_is : (front : Front) (line : List ℕ) (says : Said) (now : Front) → said set.chunk line ≡ says → HasNoFeed line → IsLog set front.own front.changes → after_whole set front line says ≡ Some now → IsLog set now.own now.changes
-  whole_is front line TooLong now says clean log is = absurd (cc)
-  whole_is front line (Read (Ok (request.Change change))) now says clean log is = accepted_is front line change now says clean log (is_accepted set front.changes change) refl is
-  whole_is front line (Read (Ok (request.Query query))) now says clean log is = absurd (cc)
-  whole_is front line (Read (Ok request.State)) now says clean log is = absurd (cc)
-  whole_is front line (Read (Err why)) now says clean log is = cut_off_is front (is_torn why) now log is
-
-  by_torn : (front : Front) (torn : Bool) (line : List ℕ) (now : Front) → HasNoFeed line → IsLog set front.own front.changes → (if torn then after_torn front line else after_whole set front line (said set.chunk line)) ≡ Some now → IsLog set now.own now.changes
-  by_torn front true line now clean log is = torn_is front line now log is
-  by_torn front false line now clean log is = whole_is front line (said set.chunk line) now refl clean log is
-
-  line_is : (front : Front) (line : List ℕ) (now : Front) → HasNoFeed line → IsLog set front.own front.changes → after_line set front line ≡ Some now → IsLog set now.own now.changes
-  line_is front line now clean log is = by_torn front front.torn line now clean log is
-
-  lines_are_on : (now : Front) (more : List (List ℕ)) (o : Option Front) → fold (onto set) o more ≡ Some now → ((mid : Front) → o ≡ Some mid → fold (onto set) (Some mid) more ≡ Some now → IsLog set now.own now.changes) → IsLog set now.own now.changes
-  lines_are_on now more None held rest = let none : None ≡ Some now = sym (none_stays set more) ∙ held in absurd (cc)
-  lines_are_on now more (Some mid) held rest = rest mid refl held
-
-  lines_are : (more : List (List ℕ)) (front now : Front) → AllByRecursion HasNoFeed more → IsLog set front.own front.changes → fold (onto set) (Some front) more ≡ Some now → IsLog set now.own now.changes
-  lines_are [] front now clean log held =
-      let same : front ≡ now = cc in
-      subst (λ (f : Front). IsLog set f.own f.changes) same log
-  lines_are (line ∷ more) front now clean log held =
-      lines_are_on now more (after_line set front line) held (λ mid is rest. lines_are more mid now clean.1 (line_is front line mid clean.0 log is) rest)
-
   no_log : IsLog set [] []
   no_log = record {
     paired = refl;
@@ -185,7 +139,9 @@ module _ (set : Settings) where
   }
 
   held_is : (bytes : List ℕ) (own : List (List ℕ)) (changes : List Change) (torn : Bool) → held_by set bytes ≡ Some (front_of own changes torn) → IsLog set own changes
-  held_is bytes own changes torn held = lines_are (all_lines bytes) no_front (front_of own changes torn) (lines_are_clean bytes) no_log held
+  held_is bytes own changes torn held =
+      lines_are set HasNoFeed (λ (front : Front). IsLog set front.own front.changes) (λ front line change clean log says accepted. one_more_is front.own front.changes line change says clean log accepted) (λ front torn log. log)
+      (all_lines bytes) no_front (front_of own changes torn) (lines_are_clean bytes) no_log held
 
 -- ---- of a log, the changes that are needed
 

@@ -8,8 +8,8 @@ use Rattle.clap.specs.Simple.{App, built, matches_of}
 use Rattle.clap.specs.Faults.{fault_of}
 use Rattle.clap.specs.Words.{is_simple_and_free}
 use Rattle.clap.proofs.OnLiterals.{clap_on_literals}
-use Rattle.cq_words.specs.Asked.{is_asked, asked_app, command_read, settings_read, when}
-use Rattle.cq_words.specs.Command.{command_after, command_from, export_made, listen_made, make_made, run_made, settings_from, settings_made}
+use Rattle.cq_words.specs.Asked.{is_asked, asked_app, command_read, server_read, settings_read, when}
+use Rattle.cq_words.specs.Command.{command_after, command_from, export_made, listen_made, make_made, run_made, server_from, settings_from, settings_made}
 use Rattle.cq_words.specs.Grammar.{Word, Row, Item, are_whole, has_name, items_from, items_of}
 use Rattle.cq_words.specs.Table.{flag_name, param_name, row_of, verb_name}
 use Rattle.cq_words.specs.declared.command.Command.TheVariants as command
@@ -156,21 +156,20 @@ known_flag : (f : Flag) → has_name (map flag_name (flag.IgnoreIds ∷ flag.Ign
 known_flag flag.IgnoreIds = refl
 known_flag flag.IgnoreLiterals = refl
 
+server_is : (row : Row) (items : List Item) → ((p : Param) → has_name row.flags (param_name p) ≡ false) → ((f : Flag) → has_name row.flags (flag_name f) ≡ true) → AreAllBare items → AreAllValued items
+    → server_read (entries_of row items) ≡ server_from items
+server_is row items other known bare valued = λ i. listen_made
+    (settings_are row items other known bare i)
+    (taken_is row items param.Address (other param.Address) (valued param.Address) i)
+    (number_is row items param.ListenWorkers (other param.ListenWorkers) i)
+    (number_is row items param.Sessions (other param.Sessions) i)
+    (number_is row items param.Connections (other param.Connections) i)
+
 values_are : (v : Verb) (items : List Item) → AreAllBare items → AreAllValued items → command_read v (entries_of (row_of v) items) ≡ command_from v items
 values_are verb.Run items bare valued = λ i. option_map command.Run
     (run_made (settings_are (row_of verb.Run) items other_name known_flag bare i) (number_is (row_of verb.Run) items param.Workers refl i))
-values_are verb.Listen items bare valued = λ i. option_map command.Listen (listen_made
-    (settings_are (row_of verb.Listen) items other_name known_flag bare i)
-    (taken_is (row_of verb.Listen) items param.Address refl (valued param.Address) i)
-    (number_is (row_of verb.Listen) items param.ListenWorkers refl i)
-    (number_is (row_of verb.Listen) items param.Sessions refl i)
-    (number_is (row_of verb.Listen) items param.Connections refl i))
-values_are verb.Serve items bare valued = λ i. option_map command.Serve (listen_made
-    (settings_are (row_of verb.Serve) items other_name known_flag bare i)
-    (taken_is (row_of verb.Serve) items param.Address refl (valued param.Address) i)
-    (number_is (row_of verb.Serve) items param.ListenWorkers refl i)
-    (number_is (row_of verb.Serve) items param.Sessions refl i)
-    (number_is (row_of verb.Serve) items param.Connections refl i))
+values_are verb.Listen items bare valued = λ i. option_map command.Listen (server_is (row_of verb.Listen) items other_name known_flag bare valued i)
+values_are verb.Serve items bare valued = λ i. option_map command.Serve (server_is (row_of verb.Serve) items other_name known_flag bare valued i)
 values_are verb.Drive items bare valued = λ i. option_map command.Drive (settings_are (row_of verb.Drive) items other_name known_flag bare i)
 values_are verb.Make items bare valued = λ i. option_map command.Make
     (make_made (number_is (row_of verb.Make) items param.Number refl i) (number_is (row_of verb.Make) items param.Files refl i))
