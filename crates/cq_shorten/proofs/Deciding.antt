@@ -1,5 +1,5 @@
 -- Whether a change is accepted, by the three tests of what is held, and what is held at first.
-use Rattle.std.proofs.Common.{◌≡◌, ◌<◌, ◌≤◌, Bool, true, false, [], refl, arith}
+use Rattle.std.proofs.Common.{◌≡◌, ◌⊎◌, ◌<◌, ◌≤◌, Bool, true, false, [], refl, inl, inr, arith}
 use Rattle.std.specs.Prelude.{is_none}
 use Rattle.cq_base.specs.declared.settings.Settings.{Settings}
 use Rattle.cq_board.specs.Answers.{cause_among}
@@ -19,6 +19,15 @@ none_passed true full long none = absurd (cc)
 none_passed false true long none = absurd (cc)
 none_passed false false true none = absurd (cc)
 none_passed false false false none = (refl, refl, refl)
+
+-- and something is if one passes
+pub refused_with : (absent full long : Bool) → (absent ≡ true) ⊎ ((full ≡ true) ⊎ (long ≡ true)) → is_none (cause_among absent full long) ≡ false
+refused_with true full long why = refl
+refused_with false true long why = refl
+refused_with false false true why = refl
+refused_with false false false (inl no) = absurd (cc)
+refused_with false false false (inr (inl no)) = absurd (cc)
+refused_with false false false (inr (inr no)) = absurd (cc)
 
 -- nothing was taken
 pub nothing_taken : (set : Settings) (s : Shortener) → s.changes ≡ accepted_from set [] 0 → Has s set [] []

@@ -1,5 +1,5 @@
 -- One change more is held, with its line.
-use Rattle.std.proofs.Common.{◌≡◌, ℕ, ◌+◌, ◌-◌, ◌<◌, ◌≤◌, true, false, List, [], ◌∷◌, ◌++◌, length, map, get_or, nat_eq, Some, sym, ap, ap₂, ◌∙◌, subst, ⊎_elim, length-append, arith}
+use Rattle.std.proofs.Common.{◌≡◌, ◌⊎◌, ℕ, ◌+◌, ◌-◌, ◌<◌, ◌≤◌, true, false, List, [], ◌∷◌, ◌++◌, length, map, get_or, nat_eq, Some, sym, ap, ap₂, ◌∙◌, subst, ⊎_elim, length-append, arith}
 use Rattle.std.specs.Prelude.{Vec, is_none}
 use Rattle.std.specs.BTreeMap.{BTreeMap, get, is_at}
 use Rattle.std.specs.Cmp.{unsigned_tied}
@@ -18,7 +18,7 @@ use Rattle.cq_history.specs.Lawful.{is_absent, is_full, is_long}
 use Rattle.cq_history.specs.State.{new_slot}
 use Rattle.cq_kept.specs.Accepted.{Accepted, Holds, accepted_from, bare_state}
 use Rattle.cq_log.specs.Logs.{is_accepted}
-use Rattle.cq_shorten.proofs.Deciding.{accepted_without}
+use Rattle.cq_shorten.proofs.Deciding.{accepted_without, refused_with}
 use Rattle.cq_shorten.specs.Keeping.{Has, HasLine}
 use Rattle.cq_shorten.specs.declared.held.Shortener.{Shortener}
 use Rattle.cq_talk.proofs.Causing.{changes_new}
@@ -30,6 +30,13 @@ module _ (set : Settings) (own : List (List ℕ)) (changes : List Change) (line 
   none_against there room short =
       subst (λ (a : Accepted). is_none (cause_among (is_absent (bare_state a) change) (is_full a.settings (bare_state a)) (is_long a.settings (bare_state a) change)) ≡ true) has.changes_are
       (accepted_without (is_absent (bare_state old.changes) change) (is_full old.changes.settings (bare_state old.changes)) (is_long old.changes.settings (bare_state old.changes) change) there room short)
+
+  -- a test was passed, so it is not
+  pub some_against : (is_absent (bare_state old.changes) change ≡ true) ⊎ ((is_full old.changes.settings (bare_state old.changes) ≡ true) ⊎ (is_long old.changes.settings (bare_state old.changes) change ≡ true))
+      → is_accepted set changes change ≡ false
+  some_against why =
+      subst (λ (a : Accepted). is_none (cause_among (is_absent (bare_state a) change) (is_full a.settings (bare_state a)) (is_long a.settings (bare_state a) change)) ≡ false) has.changes_are
+      (refused_with (is_absent (bare_state old.changes) change) (is_full old.changes.settings (bare_state old.changes)) (is_long old.changes.settings (bare_state old.changes) change) why)
 
   module _ (mid : BTreeMap ℕ (Vec ℕ Global)) (held : Vec ℕ Global) (at : Accepted) (number : ℕ) (next : number ≡ length old.changes.slots + 1) (here : get nat_cmp mid number ≡ Some held) (items : held.items ≡ line)
       (others : (q : ℕ) → is_at (nat_cmp number) q ≡ false → get nat_cmp mid q ≡ get nat_cmp old.lines q)

@@ -112,6 +112,7 @@ settings_read entries = settings_made
     (flag_read flag.IgnoreIds entries)
     (flag_read flag.IgnoreLiterals entries)
 
+-- of `listen` and `serve`
 abbrev pub server_read : List Entry → Option Listen
 server_read entries = listen_made
     (settings_read entries)

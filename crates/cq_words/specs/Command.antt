@@ -118,6 +118,7 @@ connections_in (command.Shorten settings) = None
 abbrev pub connections_of : List Word → Option ℕ
 connections_of words = option_and_then connections_in (command_of words)
 
+-- of `listen` and `serve`
 abbrev pub HasServerRanges : Listen → Type 0
 HasServerRanges asked = IsInRange asked.settings × (asked.workers ≤ 64) × (1 ≤ asked.sessions) × (asked.sessions ≤ 64)
 

@@ -1,11 +1,25 @@
-use Rattle.std.proofs.Common.{◌≡◌, ◌∷◌, ◌++◌, [], true, sym, ap, subst, ◌∙◌, arith, ◌+◌}
+use Rattle.std.proofs.Common.{◌≡◌, ◌∷◌, ◌++◌, [], true, false, sym, ap, subst, ◌∙◌, inl, inr, arith, ◌+◌}
 use Rattle.cq_base.specs.declared.change.Change.{Change}
 use Rattle.cq_kept.specs.Accepted.{Accepted, accepted_from}
 use Rattle.cq_kept.specs.Slots.{change_of}
 use Rattle.cq_log.specs.Logs.{is_accepted}
-use Rattle.cq_shorten.proofs.Taking.{none_against, has_one_more}
+use Rattle.cq_shorten.proofs.Taking.{none_against, some_against, has_one_more}
 use Rattle.cq_shorten.specs.Keeping.{Has}
 use Rattle.cq_shorten.proofs.keeping.ShortenerTaker.take.Goals as goal
+use Rattle.cq_shorten.proofs.keeping.ShortenerTaker.take.Goals.{then-is_absent-via-then-is_absent, then-is_absent-via-else-is_absent+then-is_full, then-is_absent-via-else-is_absent+else-is_full+then-is_long}
+
+pub returns-then-is_absent-clause-takes : goal.returns-then-is_absent-clause-takes
+returns-then-is_absent-clause-takes c = λ own changes has.
+    let said = change_of c.in_ok-change.change in
+    let old = c.args.self.now in
+    subst (λ (change : Change). is_accepted c.args._settings.now changes change ≡ false) c.in_ok-change.ensures.change
+    (some_against c.args._settings.now own changes c.args.line.now said old old has (
+    elim c.then-is_absent.branch [
+      | then-is_absent-via-then-is_absent w ↦ inl (sym c.is_absent.ensures ∙ w.if-is_absent.true)
+      | then-is_absent-via-else-is_absent+then-is_full w ↦ inr (inl (sym w.is_full.ensures ∙ w.if-is_full.true))
+      | then-is_absent-via-else-is_absent+else-is_full+then-is_long w ↦ inr (inr (sym w.is_long.ensures ∙ w.if-is_long.true))
+    ]
+    ))
 
 pub set_floor-requires-clause-low : goal.set_floor-requires-clause-low
 set_floor-requires-clause-low c =
