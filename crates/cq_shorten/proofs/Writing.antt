@@ -1,6 +1,9 @@
 -- The lines that are needed, up to one number after the other.
-use Rattle.std.proofs.Common.{◌≡◌, ℕ, ◌-◌, ◌<◌, ◌≤◌, Bool, cond, nat_le, List, [], ◌∷◌, ◌++◌, length, map, flat_map, filter, get_or, Option, refl, sym, ap, ap₂, ◌∙◌, subst, ⊎_elim, append_assoc, append-nil, arith}
-use Rattle.std.specs.Prelude.{AllPairs, Contains}
+use Rattle.std.proofs.Common.{◌≡◌, ℕ, ◌-◌, ◌<◌, ◌≤◌, Bool, cond, nat_le, List, [], ◌∷◌, ◌++◌, length, map, flat_map, filter, get_or, Option, Some, None, refl, sym, ap, ap₂, ◌∙◌, subst, ⊎_elim, append_assoc, append-nil, Bor, arith}
+use Rattle.std.specs.Prelude.{AllPairs, Contains, Vec, option_copied}
+use Rattle.std.specs.BTreeMap.{get}
+use Rattle.std.specs.Ordering.{nat_cmp}
+use Rattle.std.specs.declared.alloc.Global.{Global}
 use Rattle.std.specs.Io.KnownBytes.{Appends}
 use Rattle.std.proofs.KnownBytes.{Appends-nil, Appends-trans}
 use Rattle.std.proofs.lemmas.Bool.{cases_lt, le-leb, lt-leb}
@@ -121,6 +124,18 @@ module _ (s : Shortener) (set : Settings) (own : List (List ℕ)) (changes : Lis
       (bytes_of front.0, sym (bytes_join (up_to last (needed changes)) front.0) ∙ ap bytes_of front.1)
 
 -- ---- what is written of them
+
+-- what is found at a number is the line that is held there
+module _ (s : Shortener) (number : ℕ) (found : Option (Bor (Vec ℕ Global))) (at : option_copied found ≡ get nat_cmp s.lines number) where
+  pub found_held : (k : Bor (Vec ℕ Global)) → found ≡ Some k → (line : List ℕ) → HasLine s number line → k.now.items ≡ line
+  found_held k is line has =
+      let both : Some k.now ≡ Some has.0 = sym (ap option_copied is) ∙ at ∙ has.1 in
+      let same : k.now ≡ has.0 = cc in
+      ap (λ (v : Vec ℕ Global). v.items) same ∙ has.2
+
+  -- and if nothing is found, none is
+  pub found_none : found ≡ None → (line : List ℕ) → HasLine s number line → ⊥
+  found_none is line has = let none : None ≡ Some has.0 = sym (ap option_copied is) ∙ at ∙ has.1 in absurd (cc)
 
 -- nothing, at first
 pub none_sent : (s : Shortener) (written : Option (List ℕ)) → SentUpTo s 0 written written
