@@ -27,6 +27,7 @@ use Rattle.cq_hub.specs.Hubs.{Never}
 use Rattle.cq_hub.specs.Says.{HasGreatestFloor, HasPublished, IsNoneFree, IsRefusedFor}
 use Rattle.cq_hub.proofs.Growing.{rises}
 use Rattle.cq_log.specs.Logs.{is_accepted}
+use Rattle.cq_request.specs.Reading.{line_says}
 use Rattle.cq_request.specs.declared.request.Query.{Query}
 use Rattle.cq_request.specs.declared.request.Request.{Request}
 use Rattle.cq_request.specs.declared.request.Request.TheVariants as request
@@ -38,7 +39,7 @@ use Rattle.cq_shared.specs.declared.shared.Shared.{Shared}
 use Rattle.cq_talk.specs.Causes.{cause, state_at}
 use Rattle.cq_talk.proofs.Causing.{cause_is}
 use Rattle.cq_talk.proofs.Talking.{published_few}
-use Rattle.cq_serve_kept.specs.Reloads.{HasTaken, IsDone, IsLow, TakesAfter}
+use Rattle.cq_serve_kept.specs.Reloads.{HasTaken, IsDone, IsLow, TakesSaid}
 use Rattle.cq_serve_kept.proofs.Continuing.{each_accepted}
 use Rattle.cq_serve_kept.proofs.FirstPass.{lawful_seen, none_other, taken_accepted, taken_asked, taken_waited}
 
@@ -95,7 +96,7 @@ module _ {W R : Type 0} (hub : Shared W R) (set : Settings) (changes : List Chan
       (λ took. Contains-nil (Took (suc c) r) (subst (λ (es : List Event). Contains es (Took (suc c) r)) (none_other hub set changes p is (suc c) (omega arith)) took))
       (taken_since (settings_of hub) (callers_of hub) [] p.seen (suc c) r (lawful_seen hub p is.of) taken)
 
-  -- where no change is neither done nor taken, all are done
+  -- if no change is neither done nor taken, all are done
   all_done : (p : BoardPass) → HasTaken hub p set changes → IsNoneFree (state_of hub p.seen) → IsDone hub p
   all_done p is none =
       let s = state_of hub p.seen in
@@ -209,9 +210,12 @@ module _ {W R : Type 0} (hub : Shared W R) (set : Settings) (changes : List Chan
         let absent = absent_anywhere (settings_of hub) changes (state_of hub call.mid).floor (length changes) change (against refused.Absent call (λ is_memory. absurd (cc))) in
         not_then refused.Absent call (λ is_memory. absurd (cc)) (length changes) absent refl
 
-  -- the same in the words of whoever takes changes
-  module _ (q : BoardPass) (change : Change) where
-    pub taken_by : (Says : Bool → Type 0) → ((is_accepted set changes change ≡ true) × HasTaken hub q set (changes ++ change ∷ []) → Says true) → (is_accepted set changes change ≡ false → Says false)
-        → (result : Bool) → TakesAfter hub q set changes change result → Says result
-    taken_by Says if_taken if_refused true taken = if_taken taken
-    taken_by Says if_taken if_refused false unheld = if_refused unheld
+-- the same in the words of whoever takes changes: what it had taken before a refusal, it had taken after it
+module _ {W R : Type 0} (hub : Shared W R) (set : Settings) (p m q : BoardPass) (change : Change) (chunk : ℕ) (line : List ℕ) (says : line_says chunk line ≡ Ok (request.Change change))
+    (waits : (changes : List Change) → HasTaken hub p set changes → HasTaken hub m set changes) where
+  pub taken_as : (Holds : List (List ℕ) → List Change → Bool → Type 0)
+      → ((lines : List (List ℕ)) (changes : List Change) → (is_accepted set changes change ≡ true) × HasTaken hub q set (changes ++ change ∷ []) → Holds lines changes true)
+      → ((lines : List (List ℕ)) (changes : List Change) → is_accepted set changes change ≡ false → Holds lines changes false)
+      → (result : Bool) → TakesSaid hub m q chunk line result → (lines : List (List ℕ)) (changes : List Change) → HasTaken hub p set changes → Holds lines changes result
+  taken_as Holds if_taken if_refused true takes lines changes is = if_taken lines changes (takes change says set changes (waits changes is))
+  taken_as Holds if_taken if_refused false takes lines changes is = if_refused lines changes (takes change says set changes (waits changes is))

@@ -65,8 +65,8 @@ module _ {S K : Type 0} (from : source.Ghosts S) (onto : sink.Ghosts K) (set : S
     pub held : held_by set got ≡ Some front
     pub holds : Holds (mending (is_unclosed got) front.torn) front.changes
 
-  -- By how it ended: the log was continued; or the sink failed; or nothing was written. If a line was refused, there is one that a log
-  -- may not have there.
+  -- By how it ended: the log was continued; or the sink failed; or nothing was written. If a line was refused, there is one that
+  -- a log may not have there.
   abbrev pub EndsKept : Kept → Type 0
   EndsKept (kept.Served served) = TookLog (λ mended before. ContinuesWhole onto set mended before written written_now)
   EndsKept kept.Broken = TookLog (λ mended before. ContinuesBroken onto set mended before written written_now)

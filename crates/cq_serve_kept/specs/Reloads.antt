@@ -65,6 +65,6 @@ module _ {W R : Type 0} (hub : Shared W R) where
     abbrev pub TakesSaid : ℕ → List ℕ → Bool → Type 0
     TakesSaid chunk line result = (change : Change) → line_says chunk line ≡ Ok (request.Change change) → TakesChange change result
 
-    -- the same where the floor was at the last change
+    -- the same, if the floor was at the last change
     abbrev pub TakesWhereLow : Change → Bool → Type 0
     TakesWhereLow change result = (set : Settings) (changes : List Change) → HasTaken p set changes → IsLow p → TakesAfter q set changes change result

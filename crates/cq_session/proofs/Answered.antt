@@ -15,7 +15,7 @@ both_ok (Err e) P S Q to p q = tt
 pub ok_same : {T E : Type 0} (r s : Result T E) (P : T → Type 0) → s ≡ r → IfOk r P → IfOk s P
 ok_same r s P same is = subst (λ x. IfOk x P) (sym same) is
 
--- where there is one, it has this too
+-- if there is one, it has this too
 pub some_weaker : {T : Type 0} (o : Option T) (P Q : T → Type 0) → ((x : T) → P x → Q x) → IfSome o P → IfSome o Q
 some_weaker (Some x) P Q to p = to x p
 some_weaker None P Q to p = tt

@@ -126,7 +126,7 @@ module _ {H W P : Type 0} (of : Ghosts H W P) (hub : H) (old new : P) (reads rea
   pub turned_by : (strict first known : Bool) (o : Option Stop) → o ≡ stop_after strict first known → (turns : Sent) → known ≡ is_known turns.reply → (is_known turns.reply ≡ true → IsObject (said set.chunk line)) → Ends strict first o
   turned_by strict first known o same turns is object = subst (λ (o : Option Stop). Ends strict first o) (sym same) (turned_as strict first known turns is object)
 
-  -- where it stopped, after a talk
+  -- if it stopped, after a talk
   pub stopped_by : (Breaks : Type 0) (strict first : Bool) (why : Stop) (begun : List Event) (n : Counts) (lines : List (List ℕ)) (replies : List Reply) → SeenTalk set (of.callers hub) of.alone c (acceptor c) begun n h seen lines replies
       → MayStop Breaks strict why → (strict ≡ true → first ≡ true → lines ≡ []) → Ends strict first (Some why) → StopsHere set (of.callers hub) of.alone c (acceptor c) begun after (lines ++ line ∷ []) replies before written_now why
   stopped_by Breaks strict first stop.Unkept begun n lines replies was may none ends = breaks_off set (of.callers hub) of.alone c (acceptor c) begun h after n seen lines replies line before written_now was ends.0 ends.1

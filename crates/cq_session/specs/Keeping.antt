@@ -1,4 +1,4 @@
--- Who accepts the changes of a session, and what it is told of that.
+-- Who accepts the changes of a session, and what the session learns of that.
 use Rattle.std.specs.Prelude.{ℕ, [], ◌∷◌, Option, Some, None}
 use Rattle.cq_base.specs.declared.change.Change.{Change}
 use Rattle.cq_board.specs.declared.answers.Refused.{Refused}
@@ -20,7 +20,7 @@ module _ {H W P : Type 0} (of : Ghosts H W P) (hub : H) where
     abbrev pub AcceptsBy : (ℕ → ℕ) → Change → ℕ → Type 0
     AcceptsBy acceptor change number = Extends of.Stands of.alone Never hub old new (λ c. event.Accept (acceptor c) change ∷ []) (λ _. IsAcceptedAs (of.settings hub) (of.callers hub) change number)
 
-    -- it was not accepted, for this cause; or nobody is told whether it was
+    -- it was not accepted, for this cause; or no reply reports whether it was
     abbrev pub RefusesKept : Change → Unkept → Type 0
     RefusesKept change (unkept.Refused cause) = Refuses of.Stands of.alone of.settings of.callers hub old new change cause
     RefusesKept change unkept.Broken = SeesMore of.Stands of.alone of.settings of.callers hub old new

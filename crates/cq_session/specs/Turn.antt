@@ -20,7 +20,7 @@ pub record CountedTalkBy (set : Settings) (callers : ℕ) (alone : Type 0) (c by
   pub talk : IsTalkBy set callers alone c by h after lines replies
   pub spends : Spends (AreAllViewings (map (said set.chunk) lines) replies) set c h n after
 
--- where the caller's changes are accepted by itself
+-- if the caller's changes are accepted by itself
 abbrev pub CountedTalk : Settings → ℕ → Type 0 → ℕ → List Event → Counts → List Event → List (List ℕ) → List Reply → Type 0
 CountedTalk set callers alone c h n after lines replies = CountedTalkBy set callers alone c c h n after lines replies
 

@@ -158,12 +158,13 @@ impl<
 }
 
 /// Answers the lines of a source one by one by calls of a hub, whose pass has no view open. Windows have the keys of
-/// `keyer`. If the keeper is strict, and the first line is no JSON object, its reply is the last. A change is accepted by the keeper, which keeps its line before its reply is written; and no version is shown
-/// with a change whose line is not kept. Each whole reply is handed to the sink before the next line is cut. Afterwards the
-/// pass stands for the history to which the talk came, with no view open. After each answer by a view, and before it is
-/// written, the hub is swept; if memory runs out there, the next sweep goes on. Each accepted change, each work before it is
-/// done, each shard that was brought up and each view that was opened is reported to the gate. The cutter keeps its limit, so
-/// that it may be restarted for another source.
+/// `keyer`. If the keeper is strict, and the first line is no JSON object, its reply is the last. A change is accepted by the
+/// keeper, which keeps its line before its reply is written; and no version is shown with a change whose line is not kept.
+/// Each whole reply is handed to the sink before the next line is cut. Afterwards the pass stands for the history to which
+/// the talk came, with no view open. After each answer by a view, and before it is written, the hub is swept; if memory runs
+/// out there, the next sweep goes on. Each accepted change, each work before it is done, each shard that was brought up and
+/// each view that was opened is reported to the gate. The cutter keeps its limit, so that it may be restarted for another
+/// source.
 pub fn kept_session<
     R: Threads + Sync,
     L: Ledger,

@@ -1,4 +1,4 @@
-use Rattle.std.proofs.Common.{ap, length, arith}
+use Rattle.std.proofs.Common.{arith}
 use Rattle.std.specs.Vec.Iter.{into_iter_items}
 use Rattle.cq_listen.proofs.Seating.{first_idle, one_more_of, rest_idle}
 use Rattle.cq_listen.proofs.benches.benches_of.Goals as goal
@@ -9,7 +9,7 @@ benches-preserved g c =
     let number = i.number in
     let len = c.in_ok-push.ensures.len in
     let step = c.in-Some.ensures.steps.0 in
-    let left = ap length step in
+    let left = c.in-Some.ensures.steps.1 in
     record {
       idle = rest_idle c.args.hub.now (into_iter_items c.benches.own-iterator) (into_iter_items c.next.new.self) c.in-Some.own step i.idle;
       number = omega (arith, len, number, left);
@@ -22,5 +22,5 @@ new-requires-clause-idle g c = first_idle c.args.hub.now (into_iter_items c.benc
 pub returns-clause-number : goal.returns-clause-number
 returns-clause-number g c =
     let number = c.benches.invariant.number in
-    let none = ap length c.in-None.ensures.steps.0 in
+    let none = c.in-None.ensures.steps.0 in
     omega (arith, number, none)

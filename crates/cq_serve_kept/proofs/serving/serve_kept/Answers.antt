@@ -17,13 +17,17 @@ take_log-requires-clause-nothing g c =
     taken_none c.in_ok-made.made.0 c.args.ground.now.settings.now c.in_ok-made.made.1 made.stands.is made.stands.caller made.accepts made.room.0 made.settings made.stands.seen
 
 pub returns-in-Spent : goal.returns-in-Spent
-returns-in-Spent g c = (reads_most _ g.S.Source c.args.ground.now.settings.now c.args.source.now c.take_log.new.source c.take_log.new.taker (rw c.in-Spent.is at c.in_ok-taken.ensures.cause) (rw c.in-Spent.is at c.in_ok-taken.ensures.takes), refl)
+returns-in-Spent g c = record {
+  log = (reads_most _ g.S.Source c.args.ground.now.settings.now c.args.source.now c.take_log.new.source c.take_log.new.taker (rw c.in-Spent.is at c.in_ok-taken.ensures.cause) (rw c.in-Spent.is at c.in_ok-taken.ensures.takes), refl);
+}
 
 pub returns-in-Refused : goal.returns-in-Refused
-returns-in-Refused g c = (reads_none _ g.S.Source c.args.ground.now.settings.now c.args.source.now c.take_log.new.source c.take_log.new.taker (rw c.in-Refused.is at c.in_ok-taken.ensures.cause) (rw c.in-Refused.is at c.in_ok-taken.ensures.takes), refl)
+returns-in-Refused g c = record {
+  log = (reads_none _ g.S.Source c.args.ground.now.settings.now c.args.source.now c.take_log.new.source c.take_log.new.taker (rw c.in-Refused.is at c.in_ok-taken.ensures.cause) (rw c.in-Refused.is at c.in_ok-taken.ensures.takes), refl);
+}
 
 pub returns-in-Failed : goal.returns-in-Failed
-returns-in-Failed g c = (refl, rw c.in-Failed.is at c.in_ok-taken.ensures.cause)
+returns-in-Failed g c = record { log = (refl, rw c.in-Failed.is at c.in_ok-taken.ensures.cause) }
 
 pub serve_taken-requires-clause-taken : goal.serve_taken-requires-clause-taken
 serve_taken-requires-clause-taken g c κs lives =
@@ -37,5 +41,7 @@ returns-in-All g c =
     let taker = c.take_log.new.taker in
     let set = c.args.ground.now.settings.now in
     let has = taken_into taker.hub.now c.in_ok-made.made.0 taker.pass set all.has.changes c.in_ok-taken.ensures.target all.has.has in
-    IfOk-weaker c.serve_taken.result _ _
-    (λ by ends. ends_kept _ g.S.Source g.K.Sink set c.args.source.now c.take_log.new.source c.args.sink.now c.serve_taken.new.sink taker c.in-All.unclosed c.in-All.torn all by (ends all.has.changes has)) c.serve_taken.ensures.ends
+    record {
+      log = IfOk-weaker c.serve_taken.result _ _
+          (λ by ends. ends_kept _ g.S.Source g.K.Sink set c.args.source.now c.take_log.new.source c.args.sink.now c.serve_taken.new.sink taker c.in-All.unclosed c.in-All.torn all by (ends all.has.changes has)) c.serve_taken.ensures.ends;
+    }

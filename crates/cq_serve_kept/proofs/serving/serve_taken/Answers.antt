@@ -40,9 +40,11 @@ split_pass-requires g c =
     record { of = c.in_ok-passes_of-2.ensures.idle.of; room = omega (arith, left, room, first, second) }
 
 pub returns-in-Err-mend : goal.returns-in-Err-mend
-returns-in-Err-mend g c = λ changes has.
-    let (front, more, parts, sent) = c.in-Err-mend.ensures.bytes in
-    mends_front c.args.hub.now c.args.ground.now.settings.now changes c.args.taken.pass has g.K.Sink c.args.sink.now c.mend.new.sink (mending c.args.taken.unclosed c.args.taken.torn) front more parts sent c.in-Err-mend.ensures.cause.failed
+returns-in-Err-mend g c = record {
+  ends = λ changes has.
+      let (front, more, parts, sent) = c.in-Err-mend.ensures.bytes in
+      mends_front c.args.hub.now c.args.ground.now.settings.now changes c.args.taken.pass has g.K.Sink c.args.sink.now c.mend.new.sink (mending c.args.taken.unclosed c.args.taken.torn) front more parts sent c.in-Err-mend.ensures.cause.failed;
+}
 
 pub serve_logging-requires-clause-settings : goal.serve_logging-requires-clause-settings
 serve_logging-requires-clause-settings g c κs lives = let (changes, has) = c.requires.taken in has.settings
@@ -75,24 +77,28 @@ pub serve_logging-requires-clause-few : goal.serve_logging-requires-clause-few
 serve_logging-requires-clause-few g c κs lives = let number = c.in_ok-passes_of-2.ensures.number in let sessions = c.requires.sessions in omega (arith, number, sessions)
 
 pub returns-then-whole : goal.returns-then-whole
-returns-then-whole g c = λ changes has.
-    let set = c.args.ground.now.settings.now in
-    let log = c.in_ok-over.over.1 in
-    let mid = c.mend.new.sink in
-    let same : accepted c.split_pass.new.pass.seen ≡ accepted c.args.taken.pass.seen = ap (λ (x : BoardPass). accepted x.seen) c.split_pass.ensures.same ∙ ap accepted (c.in_ok-passes_of-2.ensures.seen ∙ c.in_ok-passes_of.ensures.seen) in
-    let logged = subst (λ (whole : Bool). EndsLogged g.K.Sink set [] (accepted c.split_pass.new.pass.seen) mid log.sink.now whole) c.if-whole.true c.in_ok-over.ensures.ends in
-    let whole = whole_mended g.K.Sink set changes c.args.sink.now mid log.sink.now (mending c.args.taken.unclosed c.args.taken.torn) c.in-Ok-mend.ensures.bytes
-    (subst (λ (cs : List Change). ContinuesWhole g.K.Sink set [] cs mid log.sink.now) (same ∙ has.accepts) logged) in
-    subst (λ (k : g.row.K.Denot). ContinuesWhole g.K.Sink set (mending c.args.taken.unclosed c.args.taken.torn) changes c.args.sink.now k) (search rules) whole
+returns-then-whole g c = record {
+  ends = λ changes has.
+      let set = c.args.ground.now.settings.now in
+      let log = c.in_ok-over.over.1 in
+      let mid = c.mend.new.sink in
+      let same : accepted c.split_pass.new.pass.seen ≡ accepted c.args.taken.pass.seen = ap (λ (x : BoardPass). accepted x.seen) c.split_pass.ensures.same ∙ ap accepted (c.in_ok-passes_of-2.ensures.seen ∙ c.in_ok-passes_of.ensures.seen) in
+      let logged = subst (λ (whole : Bool). EndsLogged g.K.Sink set [] (accepted c.split_pass.new.pass.seen) mid log.sink.now whole) c.if-whole.true c.in_ok-over.ensures.ends in
+      let whole = whole_mended g.K.Sink set changes c.args.sink.now mid log.sink.now (mending c.args.taken.unclosed c.args.taken.torn) c.in-Ok-mend.ensures.bytes
+      (subst (λ (cs : List Change). ContinuesWhole g.K.Sink set [] cs mid log.sink.now) (same ∙ has.accepts) logged) in
+      subst (λ (k : g.row.K.Denot). ContinuesWhole g.K.Sink set (mending c.args.taken.unclosed c.args.taken.torn) changes c.args.sink.now k) (search rules) whole;
+}
 
 pub returns : goal.returns
-returns g c = λ changes has.
-    let set = c.args.ground.now.settings.now in
-    let log = c.in_ok-over.over.1 in
-    let mid = c.mend.new.sink in
-    let broken : log.whole ≡ false = search rules in
-    let same : accepted c.split_pass.new.pass.seen ≡ accepted c.args.taken.pass.seen = ap (λ (x : BoardPass). accepted x.seen) c.split_pass.ensures.same ∙ ap accepted (c.in_ok-passes_of-2.ensures.seen ∙ c.in_ok-passes_of.ensures.seen) in
-    let logged = subst (λ (whole : Bool). EndsLogged g.K.Sink set [] (accepted c.split_pass.new.pass.seen) mid log.sink.now whole) broken c.in_ok-over.ensures.ends in
-    let cut = broken_mended g.K.Sink set changes c.args.sink.now mid log.sink.now (mending c.args.taken.unclosed c.args.taken.torn) c.in-Ok-mend.ensures.bytes c.in-Ok-mend.ensures.cause.kept
-    (subst (λ (cs : List Change). ContinuesBroken g.K.Sink set [] cs mid log.sink.now) (same ∙ has.accepts) logged) in
-    subst (λ (k : g.row.K.Denot). ContinuesBroken g.K.Sink set (mending c.args.taken.unclosed c.args.taken.torn) changes c.args.sink.now k) (search rules) cut
+returns g c = record {
+  ends = λ changes has.
+      let set = c.args.ground.now.settings.now in
+      let log = c.in_ok-over.over.1 in
+      let mid = c.mend.new.sink in
+      let broken : log.whole ≡ false = search rules in
+      let same : accepted c.split_pass.new.pass.seen ≡ accepted c.args.taken.pass.seen = ap (λ (x : BoardPass). accepted x.seen) c.split_pass.ensures.same ∙ ap accepted (c.in_ok-passes_of-2.ensures.seen ∙ c.in_ok-passes_of.ensures.seen) in
+      let logged = subst (λ (whole : Bool). EndsLogged g.K.Sink set [] (accepted c.split_pass.new.pass.seen) mid log.sink.now whole) broken c.in_ok-over.ensures.ends in
+      let cut = broken_mended g.K.Sink set changes c.args.sink.now mid log.sink.now (mending c.args.taken.unclosed c.args.taken.torn) c.in-Ok-mend.ensures.bytes c.in-Ok-mend.ensures.cause.kept
+      (subst (λ (cs : List Change). ContinuesBroken g.K.Sink set [] cs mid log.sink.now) (same ∙ has.accepts) logged) in
+      subst (λ (k : g.row.K.Denot). ContinuesBroken g.K.Sink set (mending c.args.taken.unclosed c.args.taken.torn) changes c.args.sink.now k) (search rules) cut;
+}

@@ -11,4 +11,4 @@ returns-clause-accepted g c = IfOk-weaker c.accept.result _ _ (λ number call. e
 
 pub returns-clause-refused : goal.returns-clause-refused
 returns-clause-refused g c =
-    IfErr-weaker c.accept.result _ _ (λ why is. refused_kept _ _ _ _ _ (λ cause call. extends _ _ _ _ _ _ call) (λ call. extends _ _ _ _ _ _ call) why is) c.accept.ensures.refused
+    IfErr-weaker c.accept.result _ _ (refused_kept _ _ _ _ _ (λ cause call. extends _ _ _ _ _ _ call) (λ call. extends _ _ _ _ _ _ call)) c.accept.ensures.refused

@@ -3,7 +3,7 @@ use Rattle.std.proofs.lemmas.Result.{IfOk-weaker}
 use Rattle.cq_board.specs.declared.answers.Refused.{Refused}
 use Rattle.cq_board.specs.declared.answers.Refused.TheVariants as refused
 use Rattle.cq_shared.specs.Answers.{Refuses}
-use Rattle.cq_serve_kept.proofs.Lowering.{accepted_next, refused_absent, taken_by}
+use Rattle.cq_serve_kept.proofs.Lowering.{accepted_next, refused_absent, taken_as}
 use Rattle.cq_serve_kept.proofs.FirstPass.{taken_waited}
 use Rattle.cq_serve_kept.proofs.Refusing.{whatever}
 use Rattle.cq_serve_kept.proofs.reloading.ReloadedTaker.take.Goals as goal
@@ -35,10 +35,11 @@ pub returns-in-Err-FullChanges-clause-takes : goal.returns-in-Err-FullChanges-cl
 returns-in-Err-FullChanges-clause-takes g c =
     let hub = c.args.self.now.hub.now in
     let set = c.args.settings.now in
+    let p = c.args.self.now.pass in
     let m = c.accept.new.pass in
     let q = c.accept_again.new.pass in
     IfOk-weaker c.accept_again.result _ _
-    (λ result takes lines changes is. taken_by hub set changes q c.args.change _ (λ taken. taken) (λ unheld. unheld) result (takes c.args.change c.requires.says set changes (taken_waited hub set changes c.args.self.now.pass is m _ c.in-Err-FullChanges.ensures.refused)))
+    (taken_as hub set p m q c.args.change set.chunk c.args.line.now c.requires.says (λ changes is. taken_waited hub set changes p is m _ c.in-Err-FullChanges.ensures.refused) _ (λ lines changes taken. taken) (λ lines changes unheld. unheld))
     c.accept_again.ensures.takes
 
 pub accept_again-requires-in-Err-FullText-clause-ready : goal.accept_again-requires-in-Err-FullText-clause-ready
@@ -51,10 +52,11 @@ pub returns-in-Err-FullText-clause-takes : goal.returns-in-Err-FullText-clause-t
 returns-in-Err-FullText-clause-takes g c =
     let hub = c.args.self.now.hub.now in
     let set = c.args.settings.now in
+    let p = c.args.self.now.pass in
     let m = c.accept.new.pass in
     let q = c.accept_again-in-Err-FullText.new.pass in
     IfOk-weaker c.accept_again-in-Err-FullText.result _ _
-    (λ result takes lines changes is. taken_by hub set changes q c.args.change _ (λ taken. taken) (λ unheld. unheld) result (takes c.args.change c.requires.says set changes (taken_waited hub set changes c.args.self.now.pass is m _ c.in-Err-FullText.ensures.refused)))
+    (taken_as hub set p m q c.args.change set.chunk c.args.line.now c.requires.says (λ changes is. taken_waited hub set changes p is m _ c.in-Err-FullText.ensures.refused) _ (λ lines changes taken. taken) (λ lines changes unheld. unheld))
     c.accept_again-in-Err-FullText.ensures.takes
 
 pub returns-in-Err-FullChanges-clause-target : goal.returns-in-Err-FullChanges-clause-target
