@@ -25,9 +25,9 @@ pub refused_with : (absent full long : Bool) → (absent ≡ true) ⊎ ((full �
 refused_with true full long why = refl
 refused_with false true long why = refl
 refused_with false false true why = refl
-refused_with false false false (inl no) = absurd (cc)
-refused_with false false false (inr (inl no)) = absurd (cc)
-refused_with false false false (inr (inr no)) = absurd (cc)
+refused_with false false false (inl passed) = absurd (cc)
+refused_with false false false (inr (inl passed)) = absurd (cc)
+refused_with false false false (inr (inr passed)) = absurd (cc)
 
 -- nothing was taken
 pub nothing_taken : (set : Settings) (s : Shortener) → s.changes ≡ accepted_from set [] 0 → Has s set [] []

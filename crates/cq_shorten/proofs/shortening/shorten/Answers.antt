@@ -17,7 +17,7 @@ returns-in-Ok-clause-shortens g c =
     finished g.S.Source g.K.Sink c.args.settings.now c.args.source.now c.take_log.new.source c.take_log.new.taker _ _ _ _ (rw c.in-All.is at c.in_ok-take_log.ensures.takes) (rw c.in-All.is at c.in_ok-take_log.ensures.cause) c.in-Ok.ensures.bytes
     c.in-Ok.ensures.cause.kept
 
-pub returns-in-Err-clause-shortens : goal.returns-in-Err-clause-shortens
-returns-in-Err-clause-shortens g c =
+pub returns-clause-shortens : goal.returns-clause-shortens
+returns-clause-shortens g c =
     broken g.S.Source g.K.Sink c.args.settings.now c.args.source.now c.take_log.new.source c.take_log.new.taker _ _ _ _ (rw c.in-All.is at c.in_ok-take_log.ensures.takes) (rw c.in-All.is at c.in_ok-take_log.ensures.cause) c.in-Err.ensures.bytes
     c.in-Err.ensures.cause.failed
