@@ -1,7 +1,7 @@
 """The replies of a server, computed in the simplest way from small texts of words.
 
-A text is words separated by blanks or line feeds, each a token in any language, except that `#` is a fault of Java. Replies are
-computed from all pairs of places, by what docs/PROTOCOL.md says of them; nothing here has an index.
+A text is words separated by blanks or line feeds, each a token in any language, except that `#` is a fault of Java, JavaScript and
+TypeScript. Replies are computed from all pairs of places, by what docs/PROTOCOL.md says of them; nothing here has an index.
 """
 from __future__ import annotations
 
@@ -9,7 +9,8 @@ import itertools
 import json
 from typing import NamedTuple
 
-DECISIONS = {"any": (), "c": ("if", "for", "while"), "java": ("if", "for", "while")}
+DECISIONS = {"any": (), **dict.fromkeys(("c", "java", "js", "ts"), ("if", "for", "while"))}
+FAULTY = ("java", "js", "ts")
 NAMES = ["complexity", "duplicated_blocks", "duplicated_files", "duplicated_lines", "duplicated_lines_density", "files", "lines",
          "ncloc"]
 
@@ -197,8 +198,8 @@ def lines(text):
 
 
 def fault(file):
-    """The byte of the first `#` of a Java text."""
-    return file.text.encode().index(b"#") if file.lang == "java" and "#" in file.text else None
+    """The byte of the first `#`, if that is a fault of the language."""
+    return file.text.encode().index(b"#") if file.lang in FAULTY and "#" in file.text else None
 
 
 def tokens(file):

@@ -102,6 +102,8 @@ def put(path, text, lang="any", project="p"):
 
 
 JAVA = "class A { int f(int a) { if (a > 1 && a < 9) { return a; } return f(a - 1); } }\n"
+SCRIPT = "const f = (a) => { return a ? `b${a}c` : /d/ };\n"
+TYPED = "let f = (a: B<C<D>>): void => { if (a!) {} };\n"
 LINES = [
     put("t", "a b c x a b c y"), line(op="groups", project="p", min=3), line(op="state"),
     put("A.java", JAVA, "java"), put("B.java", JAVA * 2, "java"), put("u", "a b c x a b c z"), line(op="files", project="p"),
@@ -110,15 +112,15 @@ LINES = [
     line(op="verdict", project="p", min=3), line(op="drop", project="p", path="u"), line(op="drop", project="p", path="none"),
     line(op="state"), line(op="groups", project="p", min=3, finish=False), line(op="groups", project="p", min=3),
     put("c", "int main(void) { return 0; }", "c"), put("g", "package main\nfunc f() { for {} }\n", "go"),
-    put("t", "q r s q r s"), line(op="measures", project="p", min=2, path="t"), line(op="groups", project="p", min=2),
-    line(op="state"),
+    put("j", SCRIPT, "js"), put("k", TYPED, "ts"), put("t", "q r s q r s"),
+    line(op="measures", project="p", min=2, path="t"), line(op="groups", project="p", min=2), line(op="state"),
 ]
 # What `export` and `shorten` read: each line is a change that is accepted.
 CHANGES = [
     put("t", "a b c x a b c y"), put("A.java", JAVA, "java"), put("c", "int main(void) { return 0; }", "c"),
     put("g", "package main\nfunc f() { for {} }\n", "go"), put("other", "a b", project="q"), put("u", "a b c x"),
     line(op="gate", project="p", conditions=[{"metric": "duplicated_lines_density", "op": "GT", "error": 300}]),
-    line(op="drop", project="p", path="u"), put("t", "q r s q r s"),
+    line(op="drop", project="p", path="u"), put("j", SCRIPT, "js"), put("k", TYPED, "ts"), put("t", "q r s q r s"),
 ]
 # Version 2 of `p` with a gate: `t` with the one token `a`, and `u` with none.
 FILE = bytes.fromhex(

@@ -117,7 +117,7 @@ class Client:
         query = {"op": kind, "project": project}
         least = {"min": draw.randrange(2, 7)}
         if kind == "put":
-            lang, text = draw.choice(["any", "any", "c", "java"]), self.text()
+            lang, text = draw.choice(["any", "any", "c", "java", "js", "ts"]), self.text()
             return put(project, path, lang, text), lambda it: self.change(it, Change(project, path, lang, text))
         if kind == "drop":
             return {**query, "path": path}, lambda it: self.change(it, Change(project, path))

@@ -1,8 +1,9 @@
 -- What commands may not come to: under other settings, with other numbers, or with another status.
-use Rattle.std.specs.Prelude.{◌≡◌, ℕ, false, List, [], ◌∷◌, ◌++◌, slice_index, Option, None, Some, IfSome, Result, Ok, Err}
+use Rattle.std.specs.Prelude.{◌≡◌, ℕ, nat_lt, false, MatchBool, List, [], ◌∷◌, ◌++◌, slice_index, Option, None, Some, IfSome, Result, Ok, Err}
 use Rattle.std.specs.Io.KnownBytes.{Appends, Consumes}
 use Rattle.std.proofs.Common.{arith, ap, refl, sym, ◌∙◌, subst, inl, inr}
 use Rattle.cq_definition_cases.proofs.Endings.{rose}
+use Rattle.cq_base.specs.declared.refusal.Refusal.TheVariants as refusal
 use Rattle.cq_base.specs.declared.settings.Settings.{Settings}
 use Rattle.cq_beside.specs.Replies.{AreWithWorkers}
 use Rattle.cq_export.specs.Exports.{Exports}
@@ -17,6 +18,9 @@ use Rattle.cq_program.specs.Statuses.{HasServed, end_of, status_of}
 use Rattle.cq_program.specs.Top.{IsMade}
 use Rattle.cq_program.specs.declared.status.Status.{Status}
 use Rattle.cq_program.specs.declared.status.Status.TheVariants as ended
+use Rattle.cq_reply.specs.declared.reply.Reply.TheVariants as reply
+use Rattle.cq_request.specs.declared.request.Query.{Query}
+use Rattle.cq_tokask.specs.Asked.{AnswersQuery}
 use Rattle.cq_tokask.specs.Kept.{Asks, BeginsWithNoFile}
 use Rattle.cq_tokask.specs.declared.kept.Asked.TheVariants as kept
 use Rattle.cq_tokfile.specs.Snapshot.{IsTokenFile, contents_of}
@@ -57,6 +61,18 @@ a_made_line_is_not_too_much_input number files before written_now is = not_spent
 
 pub a_line_has_its_reply_beside_workers : (set : Settings) (callers workers reads reads_now : ℕ) (line : List ℕ) → AreWithWorkers set callers workers reads reads_now (line ∷ []) [] → ⊥
 a_line_has_its_reply_beside_workers set callers workers reads reads_now line are = are.beside
+
+-- ---- `ask`: a query that asks for a later version is told which one there is
+
+the_kept_version_is_told : (Answered : Type 0) (version at : ℕ) → version ≡ 3 → at ≡ 5 → MatchBool (nat_lt version at) (reply.Refused (refusal.Future 5) ≡ reply.Refused (refusal.Future version)) Answered → ⊥
+the_kept_version_is_told Answered version at three five says =
+    let later : MatchBool (nat_lt version 5) (reply.Refused (refusal.Future 5) ≡ reply.Refused (refusal.Future version)) Answered =
+    subst (λ n. MatchBool (nat_lt version n) (reply.Refused (refusal.Future 5) ≡ reply.Refused (refusal.Future version)) Answered) five says in
+    let other : reply.Refused (refusal.Future 5) ≡ reply.Refused (refusal.Future 3) =
+    subst (λ n. MatchBool (nat_lt n 5) (reply.Refused (refusal.Future 5) ≡ reply.Refused (refusal.Future n)) Answered) three later in grind (arith, other)
+
+pub the_version_that_was_asked_for_is_not_told : {L : Type 0} (s : Snapshot L) (q : Query) → s.version ≡ 3 → q.at ≡ 5 → AnswersQuery s q (reply.Refused (refusal.Future 5)) → ⊥
+the_version_that_was_asked_for_is_not_told s q three five says = the_kept_version_is_told _ s.version q.at three five says
 
 -- ---- `ask` and `export`: a token file has the settings that it was written under
 

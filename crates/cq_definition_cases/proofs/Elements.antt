@@ -44,6 +44,14 @@ an_open_comment_is_none h = h.1.1
 pub a_comment_behind_slashes_ends_before_its_line_feed : IsLineComment ends.Feed (47 ∷ 47 ∷ 97 ∷ 10 ∷ []) → ⊥
 a_comment_behind_slashes_ends_before_its_line_feed h = is_true h.1.1.1.0
 
+-- a carriage return ends a line of Java
+pub a_comment_behind_slashes_ends_before_a_return : IsLineComment ends.ReturnOrFeed (47 ∷ 47 ∷ 97 ∷ 13 ∷ []) → ⊥
+a_comment_behind_slashes_ends_before_a_return h = is_true h.1.1.1.0
+
+-- a line separator ends a line of JavaScript
+pub a_comment_behind_slashes_ends_before_a_line_separator : IsLineComment ends.Separator (47 ∷ 47 ∷ 97 ∷ 8232 ∷ []) → ⊥
+a_comment_behind_slashes_ends_before_a_line_separator h = is_true h.1.1.1.0
+
 pub the_longer_element_is_taken : better (Some (record { spell = spell.Blank; units = 1; mode = 0 })) (Some (record { spell = spell.Comment; units = 2; mode = 0 })) ≡ Some (record { spell = spell.Blank; units = 1; mode = 0 }) → ⊥
 the_longer_element_is_taken e = grind (arith, e)
 

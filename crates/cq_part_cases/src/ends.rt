@@ -1,7 +1,5 @@
 use cq_base::Text;
-use cq_io::{
-    Doors, Failed, Gate, MemDoors, MemSink, MemSource, OpenGate, Sink, Source, StdSink, StdSource,
-};
+use cq_io::{Doors, Failed, MemDoors, MemSink, MemSource, Sink, Source, StdSink, StdSource};
 use std::alloc::Global;
 use std::collections::VecDeque;
 use std::io;
@@ -67,28 +65,6 @@ fn write_once<K: Sink>(sink: &mut K, piece: &[u8; 3]) -> Result<usize, Failed> {
 }
 
 #[test]
-fn a_source_in_memory_fails_where_it_is_told(rt: HostRuntime) -> Result<(), Fail> {
-    let alloc = rt.alloc();
-    let mut source = MemSource::new(b"abcde".to_vec(alloc)?, 2, vec![in alloc; 2u64]?);
-    let mut out = [0u8; 4];
-    for wanted in [Ok(2), Err(Failed), Ok(2), Ok(1), Ok(0)] {
-        assert_eq!(rt; read_once(&mut source, &mut out), wanted);
-    }
-    Ok(())
-}
-
-#[test]
-fn a_sink_in_memory_fails_where_it_is_told(rt: HostRuntime) -> Result<(), Fail> {
-    let alloc = rt.alloc();
-    let mut sink = MemSink::new(alloc, 4, 2, vec![in alloc; 2u64]?)?;
-    for wanted in [Ok(2), Err(Failed), Ok(2), Err(Failed)] {
-        assert_eq!(rt; write_once(&mut sink, b"xyz"), wanted);
-    }
-    assert!(rt; sink.written() == b"xyxy".as_slice());
-    Ok(())
-}
-
-#[test]
 fn std_ends_give_and_take_every_byte(rt: HostRuntime) -> Result<(), Fail> {
     let mut taken = Vec::new(rt.alloc());
     let mut source = StdSource::new(SlowReader {
@@ -128,12 +104,4 @@ fn doors_open_in_order_and_fail_where_they_are_told(rt: HostRuntime) -> Result<(
     assert!(rt; doors.next_door().is_ok_and(|door| door.is_some()));
     assert!(rt; doors.next_door().is_ok_and(|door| door.is_none()));
     Ok(())
-}
-
-#[test]
-fn an_open_gate_holds_nobody(_rt: HostRuntime) {
-    OpenGate.after_accept(1);
-    OpenGate.before_work(1);
-    OpenGate.after_shard(0);
-    OpenGate.after_open(1);
 }

@@ -1,6 +1,7 @@
 ghost use Rattle.std.specs.Prelude.{◌≡◌, ◌≤◌, ◌<◌, ◌^◌, length, IfOk};
 
-use cq_base::{Class, Keys, Lang, Memory, Norm, Settings, Text};
+use crate::scans::token;
+use cq_base::{Keys, Memory, Norm, Settings};
 use cq_work::{Keyer, plain_key};
 use std::alloc::Global;
 use std::sync::Arc;
@@ -18,22 +19,14 @@ const SETTINGS: Settings = Settings {
     byte_limit: 65_536,
 };
 
-fn name(alloc: Global, text: &[u8]) -> Result<Norm, Memory> {
-    Ok(Norm {
-        lang: Lang::Any,
-        class: Class::Ident,
-        text: Text::from_bytes(alloc, text)?,
-    })
-}
-
-// As many names, each a letter; the letters begin again after 77.
-fn names(alloc: Global, count: usize) -> Result<Vec<Norm>, Memory>
+// As many tokens, each a letter; the letters begin again after 77.
+fn tokens(alloc: Global, count: usize) -> Result<Vec<Norm>, Memory>
     ensures { IfOk result (λ v. length v.items ≡ count) }
 {
     let mut norms = Vec::new(alloc);
     for at in 0..count {
         let letter = b'a' + (at % 7 + at % 11) as u8;
-        norms.push(name(alloc, &[letter])?)?;
+        norms.push(token(alloc, letter)?)?;
     }
     Ok(norms)
 }
@@ -55,59 +48,18 @@ fn keys_and_calls(alloc: Global, settings: &Settings, norms: &[Norm]) -> Result<
     Ok((keys, calls.load(SeqCst)))
 }
 
-// Whether this is the key of a window by itself, for which the closure is called.
-fn is_key_of(alloc: Global, settings: &Settings, window: &[Norm], key: u64) -> Result<bool, Memory>
-    requires some { 1 ≤ settings.now.chunk }
+// How many keys so many tokens have, and how often the closure was called for them.
+fn outcome(alloc: Global, count: usize) -> Result<(usize, u64), Memory>
+    requires few { count < 2 ^ 32 }
 {
-    if window.len() != settings.chunk as usize {
-        return Ok(false);
-    }
-    let (alone, calls) = keys_and_calls(alloc, settings, window)?;
-    Ok(calls == 1 && alone.as_slice() == [key].as_slice())
-}
-
-// How many keys these tokens have, how often the closure was called, and whether each key is that of only its window.
-fn outcome(
-    alloc: Global,
-    chunk: u32,
-    key_bits: u32,
-    norms: &[Norm],
-) -> Result<(usize, u64, bool), Memory>
-    requires few { length norms.now < 2 ^ 32 }
-    requires some { 1 ≤ chunk }
-{
-    let settings = Settings {
-        chunk,
-        key_bits,
-        ..SETTINGS
-    };
-    let (keys, calls) = keys_and_calls(alloc, &settings, norms)?;
-    let found = keys.as_slice();
-    let mut same = true;
-    for (window, key) in norms.windows(chunk as usize).zip(found) {
-        same = same && is_key_of(alloc, &settings, window, *key)?;
-    }
-    Ok((found.len(), calls, same))
+    let norms = tokens(alloc, count)?;
+    let (keys, calls) = keys_and_calls(alloc, &SETTINGS, &norms)?;
+    Ok((keys.as_slice().len(), calls))
 }
 
 #[test]
 fn the_closure_is_called_for_the_first_window_alone(rt: HostRuntime) -> Result<(), Memory> {
-    let alloc = rt.alloc();
-    let norms = names(alloc, 1_000)?;
-    assert!(rt; outcome(alloc, 20, 64, &norms)? == (981, 1, true));
-    assert!(rt; outcome(alloc, 1, 64, &norms)? == (1_000, 1, true));
-    assert!(rt; outcome(alloc, 1_000, 64, &norms)? == (1, 1, true));
-    assert!(rt; outcome(alloc, 1_001, 64, &norms)? == (0, 0, true));
-    Ok(())
-}
-
-#[test]
-fn as_many_bits_are_kept_of_each_key(rt: HostRuntime) -> Result<(), Memory> {
-    let alloc = rt.alloc();
-    let norms = names(alloc, 200)?;
-    assert!(rt; outcome(alloc, 5, 0, &norms)? == (196, 1, true));
-    assert!(rt; outcome(alloc, 5, 3, &norms)? == (196, 1, true));
-    assert!(rt; outcome(alloc, 5, 63, &norms)? == (196, 1, true));
-    assert!(rt; outcome(alloc, 1, 3, &norms)? == (200, 1, true));
+    assert_eq!(rt; outcome(rt.alloc(), 1_000)?, (999, 1));
+    assert_eq!(rt; outcome(rt.alloc(), 1)?, (0, 0));
     Ok(())
 }

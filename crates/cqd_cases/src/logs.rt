@@ -1,4 +1,4 @@
-use crate::running::{ends_with, exit_of, words_of};
+use crate::running::{ends_with, status_of, words_of};
 use cq_base::Memory;
 use cq_io::{MemDoors, MemSink, MemSource, OpenGate};
 use std::alloc::Global;
@@ -71,7 +71,7 @@ fn is_logged<Q: Threads + Wait + Sync>(
     let mut source = MemSource::new(log, 5, Vec::new(alloc));
     let mut sink = MemSink::new(alloc, 65_536, 3, vec![in alloc; run.failing_write]?)?;
     let mut doors = doors_of(alloc, run.client, run.failing_door)?;
-    let status = exit_of::<Q, _, _, _, _, _, _, Brand>(
+    let status = status_of::<Q, _, _, _, _, _, _, Brand>(
         rt,
         alloc,
         &words,
@@ -80,9 +80,7 @@ fn is_logged<Q: Threads + Wait + Sync>(
         &mut doors,
         &OpenGate,
         Blank::new(1),
-    )
-    .status
-    .code();
+    );
     Ok(status == run.status && sink.written() == run.written.as_bytes())
 }
 

@@ -2,7 +2,7 @@ ghost use Rattle.std.specs.Prelude.{◌≡◌, ◌<◌};
 
 use cq_base::{Memory, Steps, Text};
 use cq_io::{Doors, Gate, MemDoors, MemSink, MemSource, OpenGate, Sink, Source};
-use cq_program::{Exit, top};
+use cq_program::top;
 use std::alloc::Global;
 use std::collections::VecDeque;
 use std::marker::Brand;
@@ -19,9 +19,9 @@ pub(crate) fn words_of(alloc: Global, line: &str) -> Result<Vec<Text>, Memory> {
     Ok(words)
 }
 
-/// What the program comes to, over any ends. This promises nothing: what `top` promises would otherwise be proved again for each
+/// The status of the program, over any ends. This promises nothing: what `top` promises would otherwise be proved again for each
 /// kind of ends.
-pub(crate) fn exit_of<
+pub(crate) fn status_of<
     Q: Threads + Wait + Sync,
     S: Source,
     K: Sink + Send,
@@ -39,12 +39,14 @@ pub(crate) fn exit_of<
     doors: &mut D,
     gate: &G,
     blank: Blank,
-) -> Exit
+) -> u8
     requires name { blank.name ≡ L.name }
     requires parts { blank.parts ≡ L.parts }
 {
     let mut steps: Steps<L> = Steps::new(blank);
     top(rt, alloc, words, source, sink, doors, gate, &mut steps)
+        .status
+        .code()
 }
 
 pub(crate) fn run_here<Q: Threads + Wait + Sync>(
@@ -55,7 +57,7 @@ pub(crate) fn run_here<Q: Threads + Wait + Sync>(
     sink: &mut MemSink,
 ) -> u8 {
     let mut doors = MemDoors::new(VecDeque::new(alloc), Vec::new(alloc));
-    exit_of::<Q, _, _, _, _, _, _, Brand>(
+    status_of::<Q, _, _, _, _, _, _, Brand>(
         rt,
         alloc,
         words,
@@ -65,8 +67,6 @@ pub(crate) fn run_here<Q: Threads + Wait + Sync>(
         &OpenGate,
         Blank::new(1),
     )
-    .status
-    .code()
 }
 
 /// Whether the program ends with a status after it has written an output, over ends of so many bytes a call, of which

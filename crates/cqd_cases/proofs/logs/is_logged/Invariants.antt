@@ -1,4 +1,4 @@
 use Rattle.cqd_cases.proofs.logs.is_logged.Given as goal
 
-abbrev pub ghosts-exit_of : goal.ghosts-exit_of
-ghosts-exit_of g a = record { name = a.blank.name; parts = a.blank.parts }
+abbrev pub ghosts-status_of : goal.ghosts-status_of
+ghosts-status_of g a = record { name = a.blank.name; parts = a.blank.parts }

@@ -1,9 +1,0 @@
-use Rattle.std.proofs.Common.{rules, refl}
-use Rattle.cq_thread_cases.proofs.Keeping.{board_same}
-use Rattle.cq_thread_cases.proofs.cells.hold.Goals as goal
-
-pub leave_board-requires : goal.leave_board-requires
-leave_board-requires g c =
-    let e = c.enter_board-board.ensures in
-    let m = c.enter_board-board.new.pass in
-    λ κs out. (search rules, (search rules, (e.of, ((c.enter_board-board.result, e.hand), (tt, board_same c.args.cells.now.about m.seen c.enter_board-board.result c.enter_board-board.result e.board refl)))))
