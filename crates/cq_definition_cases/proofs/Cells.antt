@@ -1,9 +1,12 @@
 -- What may not become of cells, and of the passes that hold them. A shard is the number of changes that it has applied.
-use Rattle.std.specs.Prelude.{◌≡◌, ◌⊎◌, ℕ, ◌+◌, List, [], ◌∷◌, length}
+use Rattle.std.specs.Prelude.{◌≡◌, ◌⊎◌, ℕ, ◌+◌, List, [], ◌∷◌, length, Option, None}
 use Rattle.std.proofs.Common.{arith, ap, refl, inl, inr}
 use Rattle.cq_cells.specs.Callers.{longer}
 use Rattle.cq_cells.specs.Passes.{HasReached, HasShard, MayLeave, PassState, least}
+use Rattle.cq_cells.specs.Rule.{HandOk}
 use Rattle.cq_cells.specs.declared.item.Item.{Item}
+use Rattle.cq_cells.specs.declared.view.Hand.TheVariants.{Has}
+use Rattle.cq_cells.specs.declared.view.View.{View}
 use Rattle.cq_cells.proofs.Fronts.{prefix_self}
 
 -- a shard is right with its own count, whatever came
@@ -29,3 +32,9 @@ what_is_put_back_is_the_shard_that_was_taken p q none one reached = let same = r
 
 pub the_longer_history_is_kept : longer {A = ℕ} (7 ∷ []) (7 ∷ 8 ∷ []) ≡ 7 ∷ [] → ⊥
 the_longer_history_is_kept e = omega (arith, ap (λ (log : List ℕ). length log) e)
+
+pub no_cell_is_in_two_hands :
+    (lawful : List ℕ → Type 0) (fits : List ℕ → ℕ → ℕ → ℕ → Type 0) (asks : ℕ → ℕ) (caller : ℕ → Option ℕ) (log words : List ℕ) (owner : ℕ → ℕ) (v w : View ℕ ℕ ℕ) (x y : ℕ)
+    → HandOk lawful fits asks caller log words owner 0 v (Has 1 x None) → HandOk lawful fits asks caller log words owner 1 w (Has 1 y None) → ⊥
+no_cell_is_in_two_hands lawful fits asks caller log words owner v w x y first second =
+    let mine : owner 1 ≡ 0 = first.2 in let other : owner 1 ≡ 1 = second.2 in omega (arith, mine, other)

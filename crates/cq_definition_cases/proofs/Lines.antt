@@ -61,3 +61,9 @@ no_line_is_without_a_reply serves = let none : 0 ≡ 2 = ap (λ (s : List ℕ). 
 
 pub no_line_has_two_replies : Serves ended are_echoes 9 (Some (97 ∷ 10 ∷ [])) (Some []) (Some []) (Some (97 ∷ 10 ∷ 97 ∷ 10 ∷ [])) end.Finished → ⊥
 no_line_has_two_replies serves = let two : 4 ≡ 2 = ap (λ (s : List ℕ). length s) (written_of_a (97 ∷ 10 ∷ 97 ∷ 10 ∷ []) serves) in omega (arith, two)
+
+pub the_limit_is_not_the_end : (written : List ℕ) → Serves ended are_echoes 2 (Some (97 ∷ 10 ∷ [])) (Some []) (Some []) (Some written) end.Finished → ⊥
+the_limit_is_not_the_end written serves =
+    let got : 97 ∷ 10 ∷ [] ≡ serves.got = serves.bytes ∙ append-nil serves.got in
+    let two : 2 ≡ length serves.got = ap (λ (s : List ℕ). length s) got in
+    let fewer : length serves.got < 2 = serves.served.1 in omega (arith, two, fewer)

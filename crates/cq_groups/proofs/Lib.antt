@@ -20,6 +20,4 @@ pub mod Counting
 pub mod ListedGroups
 pub mod KeyLists
 pub mod Parting
-pub mod BucketEntries
-pub mod OneKey
 pub mod Sorted

@@ -1,7 +1,6 @@
 -- Groups and windows by their keys, and how many questions to an index were counted.
-use Rattle.std.specs.Prelude.{◌≡◌, ◌≢◌, ◌⊎◌, ℕ, ◌+◌, ◌-◌, ◌^◌, ◌<◌, ◌≤◌, min, Bool, false, ◌||◌, ◌==◌, List, [], ◌∷◌, length, slice_get, slice_index, Some, Any, Contains, count_by}
+use Rattle.std.specs.Prelude.{◌≡◌, ℕ, ◌+◌, ◌-◌, ◌^◌, ◌<◌, ◌≤◌, min, Bool, false, ◌||◌, ◌==◌, List, [], ◌∷◌, length, slice_index, Any, Contains, count_by}
 use Rattle.std.specs.declared.sync.ledger.Ledger as ledger
-use Rattle.cq_base.specs.declared.entry.Entry.{Entry}
 use Rattle.cq_base.specs.declared.group.Place.{Place}
 use Rattle.cq_base.specs.declared.group.Group.{Group}
 use Rattle.cq_clones.specs.Lists.{AreAllInOrder}
@@ -68,10 +67,6 @@ RisesAtMost old new n = (min old (2 ^ 64 - 1) ≤ min new (2 ^ 64 - 1)) × (min 
 abbrev pub has_file : ℕ → List Place → Bool
 has_file file [] = false
 has_file file (p ∷ ps) = p.file == file || has_file file ps
-
--- the old entries and those of one file with the key, each once
-abbrev pub AddsEntries : ℕ → List ℕ → ℕ → List Entry → List Entry → Type 0
-AddsEntries change keys key old new = AreAllInOrder (λ a b. a ≢ b) (λ e. Contains old e ⊎ ((e.change ≡ change) × (e.key ≡ key) × (slice_get keys e.at ≡ Some key))) new
 
 module _ {F R : Type 0} {f : files.Ghosts F R} {g : ledger.Ghosts R} where
   -- exactly the groups of a corpus whose word begins with a window of one of the keys, each once

@@ -1,11 +1,9 @@
-ghost use Rattle.std.specs.Prelude.{◌≡◌, ◌≢◌, AllPairs, IfOk};
+ghost use Rattle.std.specs.Prelude.{◌≡◌};
 ghost use Rattle.cq_order.specs.Spots.{AreSpots};
 ghost use Rattle.cq_tokens.specs.Parts.{changes_in};
 
-use cq_base::Memory;
-use cq_order::{Spots, spots_of};
+use cq_order::Spots;
 use cq_tokens::{Corpus, Files};
-use std::alloc::Global;
 
 /// A corpus with the spots of its changes. Both are lent, and nothing is made for it.
 #[derive(Drop)]
@@ -24,16 +22,4 @@ impl<'a, F: Files> Index<'a, F> {
     {
         Index { corpus, spots }
     }
-}
-
-/// The spots of files' changes, if nobody keeps them. It costs a sort of them.
-pub fn spots_in<F: Files>(alloc: Global, files: &F) -> Result<Spots, Memory>
-    requires { AllPairs (λ a b. a ≢ b) (F.changes files.now) }
-    ensures { IfOk result (λ spots. AreSpots (F.changes files.now) spots) }
-{
-    let mut changes = Vec::new(alloc);
-    for file in 0..files.len() {
-        changes.push(files.change(file))?;
-    }
-    spots_of(alloc, &changes)
 }

@@ -1,7 +1,7 @@
 //! The groups of all files, or of one, from an index of windows by their keys (Hummel et al., ICSM 2010). `list_file` asks
 //! for a bucket for each key of its file, and `list_all` for each key that windows at two places have: a key that only one
 //! window has gives no group, and is counted as a question without being asked. `refine` makes the groups of a bucket, and
-//! the list is sorted once. The buckets are the caller's; `PlainBuckets` reads all keys of all files for each.
+//! the list is sorted once. The buckets are the caller's.
 //!
 //! A list of n windows copies their keys and sorts them in n log n comparisons. It reads at most as many tokens as the
 //! buckets have windows, times two more than the longest repeat. It sorts its g groups in g log g comparisons, and keeps
@@ -33,7 +33,6 @@ mod keeping;
 mod keys;
 mod listing;
 mod marks;
-mod plain;
 mod refining;
 mod rows;
 mod sets;
@@ -41,6 +40,5 @@ mod spots;
 
 pub use buckets::Buckets;
 pub use entries::refine;
-pub use index::{Index, spots_in};
+pub use index::Index;
 pub use listing::{list_all, list_file};
-pub use plain::PlainBuckets;

@@ -6,5 +6,4 @@ pub mod HeaderNames
 pub mod Fitting
 pub mod Elements
 pub mod Unquoted
-pub mod Blanks
 pub mod OpenComments

@@ -3,11 +3,12 @@
 use Rattle.std.specs.Prelude.{ℕ, Bool, not, ◌&&◌, ◌||◌, ◌==◌, if◌then◌else◌, List, [], ◌∷◌, codes}
 use Rattle.std.specs.Str.{bytes_eq}
 use Rattle.cq_base.specs.declared.token.Class.TheVariants.{Word, Literal, Punct}
-use Rattle.cq_munch.specs.Commented.{commented}
-use Rattle.cq_munch.specs.Language.{Language, marked}
+use Rattle.cq_munch.specs.Comments.{blocks, lines}
+use Rattle.cq_munch.specs.Language.{Language}
 use Rattle.cq_munch.specs.Pattern.{Pattern, except, ◌∣◌}
 use Rattle.cq_munch.specs.Patterned.{any_word, Patterned, with_reserved}
-use Rattle.cq_munch.specs.Table.{Row, table, first, moded}
+use Rattle.cq_munch.specs.Table.{Row, begins}
+use Rattle.cq_munch.specs.Tabled.{language_of, tried}
 use Rattle.cq_munch.specs.declared.element.Spell.{Spell}
 use Rattle.cq_munch.specs.declared.element.Spell.TheVariants.{Blank, Comment, Token}
 use Rattle.cq_munch.specs.declared.ends.LineEnds.TheVariants.{Feed}
@@ -19,11 +20,8 @@ use Rattle.cq_lex_c.specs.Punctuators.{punctuators}
 use Rattle.cq_lex_c.specs.Texts.{IsText, IsPrefixed}
 
 -- space, tab, vertical tab, form feed, carriage return and line feed
-abbrev pub blank_characters : List (List ℕ)
-blank_characters = (32 ∷ []) ∷ (9 ∷ []) ∷ (11 ∷ []) ∷ (12 ∷ []) ∷ (13 ∷ []) ∷ (10 ∷ []) ∷ []
-
-abbrev pub is_blank : ℕ → Bool
-is_blank c = (c == 32) || ((c == 9) || ((c == 11) || ((c == 12) || ((c == 13) || (c == 10)))))
+abbrev pub is_blank : ℕ → ℕ → Bool
+is_blank mode c = (c == 32) || ((c == 9) || ((c == 11) || ((c == 12) || ((c == 13) || (c == 10)))))
 
 -- a character that begins no text in quotes, no prefix of one, no comment and no header name
 abbrev pub is_unquoted : ℕ → Bool
@@ -39,9 +37,9 @@ prefixed = record { spell = Token Literal; set = IsPrefixed }
 unfoldable pub other : Pattern
 other = except ((32, 32) ∷ (9, 13) ∷ (48, 57) ∷ (65, 90) ∷ (97, 122) ∷ (95, 95) ∷ (36, 36) ∷ (128, 128) ∷ [])
 
--- blanks, numbers and punctuators
+-- numbers and punctuators
 abbrev pub no_names : Patterned
-no_names = (Blank, any_word blank_characters) ∷ (Token Literal, number) ∷ (Token Punct, any_word punctuators ∣ other) ∷ []
+no_names = (Token Literal, number) ∷ (Token Punct, any_word punctuators ∣ other) ∷ []
 
 -- identifiers, of which the keywords are words, and all other rows without quotes
 abbrev pub unquoted : List Row
@@ -54,15 +52,15 @@ abbrev pub headers : Row
 headers = record { spell = Token Word; set = IsHeader }
 
 -- there is a header name here, which only mode 2 allows
-abbrev pub opens_header : ℕ → ℕ → List ℕ → Bool
-opens_header at mode text = (mode == 2) && has_header text
+abbrev pub opens_header : ℕ → List ℕ → Bool
+opens_header mode text = (mode == 2) && has_header text
 
 -- At a header name, or if a comment is opened, only its own row is tried.
-abbrev pub with_comments : Language
-with_comments = commented Feed (table rows)
+abbrev pub tests : ℕ → List ℕ → List (Bool × List Row)
+tests mode text = (opens_header mode text, headers ∷ []) ∷ (begins (codes "/*") text, blocks) ∷ (begins (codes "//") text, lines Feed) ∷ []
 
-abbrev pub unmarked : Language
-unmarked = first opens_header (headers ∷ []) with_comments
+abbrev pub rows_at : ℕ → List ℕ → List Row
+rows_at mode text = tried (tests mode text) rows
 
 -- the hash, spelled in one of two ways
 abbrev pub is_hash : List ℕ → Bool
@@ -79,4 +77,4 @@ mode_behind mode Comment s = mode
 mode_behind mode (Token class) s = mode_of_token mode s
 
 abbrev pub c : Language
-c = marked (moded mode_behind unmarked)
+c = language_of is_blank rows_at mode_behind

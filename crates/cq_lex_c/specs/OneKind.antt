@@ -1,9 +1,8 @@
 -- No spelling is of two kinds: the table finds one row for each spelling without quotes, and none for a text in quotes.
 use Rattle.std.proofs.Common.{◌≡◌, ℕ, ◌-◌, true, false, List, [], ◌∷◌, ◌++◌, map, refl, sym, subst, ap, ◌∙◌, ⊎_elim, arith}
-use Rattle.std.specs.List.{list_all}
 use Rattle.std.proofs.lemmas.Bool.{eqb-true, both_ways}
 use Rattle.cq_munch.specs.Automata.{Tables, entry_at, row_of, row_fits, rows_fit, fits}
-use Rattle.cq_munch.specs.Behind.{any_takes_empty, takes_empty}
+use Rattle.cq_munch.specs.Behind.{takes_empty}
 use Rattle.cq_munch.specs.Comments.{IsAfter}
 use Rattle.cq_munch.specs.Language.{HasOneKind}
 use Rattle.cq_munch.specs.Pattern.{Pattern, Spells, in_ranges, only, many, ◌▸◌}
@@ -11,15 +10,15 @@ use Rattle.cq_munch.specs.Patterned.{patterns_of}
 use Rattle.cq_munch.specs.PlainNames.{plain_fits}
 use Rattle.cq_munch.specs.Quotes.{quoted, item}
 use Rattle.cq_munch.specs.Scanners.{IsScanner}
-use Rattle.cq_munch.specs.Table.{InTable, table, moded}
+use Rattle.cq_munch.specs.Table.{InTable}
 use Rattle.cq_munch.specs.declared.element.Spell.{Spell}
 use Rattle.cq_munch.specs.declared.ends.LineEnds.TheVariants.{Feed, ReturnOrFeed}
-use Rattle.cq_munch.proofs.OneKind.{OneKind, one_more, of_table, of_first, of_commented, of_marked}
-use Rattle.cq_munch.proofs.Reserving.{has_row, one_kind_reserved, words_spelled}
+use Rattle.cq_munch.proofs.OneKind.{OneKind, of_language, of_tests, one_block, one_line, one_more, one_row}
+use Rattle.cq_munch.proofs.Reserving.{has_row, one_kind_reserved, scanner_of}
 use Rattle.cq_munch.proofs.RowScans.{no_more}
 use Rattle.cq_munch.proofs.Seen.{itself_below}
-use Rattle.cq_munch.proofs.Steps.{behind_word, takes_empty-if}
-use Rattle.cq_lex_c.specs.C.{c as c_language, rows, texts as text_row, prefixed, no_names, unquoted, other, headers, opens_header, with_comments, unmarked, mode_behind}
+use Rattle.cq_munch.proofs.Steps.{takes_empty-if}
+use Rattle.cq_lex_c.specs.C.{c as c_language, is_blank, rows, rows_at, tests, texts as text_row, prefixed, no_names, unquoted, other, headers, mode_behind}
 use Rattle.cq_lex_c.specs.Characters.{begins_identifier, continues_identifier, stood}
 use Rattle.cq_lex_c.specs.Identifiers.{identifier, keywords}
 use Rattle.cq_lex_c.specs.Numbers.{number}
@@ -35,24 +34,9 @@ pub scanner_fits : fits (patterns_of scanned) texts scanner ≡ true
 unfolding fits rows_fit row_fits identifier number other
 scanner_fits = refl
 
-plain_names : plain_fits NAMES scanner (entry_at scanner 0 97 - 1) 0 ≡ true
-unfolding plain_fits
-plain_names = refl
-
-keywords_pass : list_all (λ w. any_takes_empty (behind_word (map stood w) (identifier ∷ []))) keywords ≡ true
-unfolding identifier
-keywords_pass = refl
-
 pub is_scanner : IsScanner stood identifier keywords no_names NAMES SPELLS scanner
-is_scanner = record {
-  texts = texts;
-  state = entry_at scanner 0 97 - 1;
-  fits = (refl, scanner_fits);
-  plain = plain_names;
-  itself = itself_below begins_identifier continues_identifier;
-  words_named = words_spelled stood identifier keywords keywords_pass;
-  no_names = refl;
-}
+unfolding plain_fits identifier
+is_scanner = scanner_of stood identifier keywords no_names NAMES SPELLS scanner texts (itself_below begins_identifier continues_identifier) (refl, scanner_fits) refl refl refl
 
 -- ---- texts in quotes, which no other row has
 
@@ -123,4 +107,4 @@ one_kind_of_rows =
     (λ s b own h. ⊎_elim (λ too. sym too.0) (λ h. absurd (unrowed b s (no_text s own).alone h)) h)
 
 pub one_kind_of_c : HasOneKind c_language
-one_kind_of_c = of_marked (moded mode_behind unmarked) (of_first opens_header headers with_comments (of_commented Feed (table rows) (of_table rows one_kind_of_rows)))
+one_kind_of_c = of_language is_blank rows_at mode_behind (λ mode text. of_tests (tests mode text) rows (one_row headers, (one_block, (one_line Feed, one_kind_of_rows))))

@@ -14,6 +14,6 @@ scanned = (Token Ident, identifier) ∷ no_names
 abbrev pub texts : List (List ℕ)
 texts =
     codes "0" ∷ codes "a" ∷ codes "!" ∷ codes "\"" ∷ codes "#" ∷ codes "%" ∷ codes "&" ∷ codes "+" ∷ codes "-" ∷ codes "." ∷ codes ":" ∷ codes "<"
-    ∷ codes ">" ∷ codes "\\" ∷ codes "|" ∷ codes " " ∷ codes "0e" ∷ codes "0\\" ∷ codes "a\\" ∷ codes "%:" ∷ codes ".." ∷ codes "\\u" ∷ codes "\\U" ∷ codes "0\\u"
-    ∷ codes "0\\U" ∷ codes "%:%" ∷ codes "\\u0" ∷ codes "\\U0" ∷ codes "0\\u0" ∷ codes "0\\U0" ∷ codes "\\u00" ∷ codes "\\U00" ∷ codes "0\\u00" ∷ codes "0\\U00" ∷ codes "\\u000" ∷ codes "\\U000"
-    ∷ codes "0\\u000" ∷ codes "0\\U000" ∷ []
+    ∷ codes ">" ∷ codes "\\" ∷ codes "|" ∷ codes "0e" ∷ codes "0\\" ∷ codes "a\\" ∷ codes "%:" ∷ codes ".." ∷ codes "\\u" ∷ codes "\\U" ∷ codes "0\\u" ∷ codes "0\\U"
+    ∷ codes "%:%" ∷ codes "\\u0" ∷ codes "\\U0" ∷ codes "0\\u0" ∷ codes "0\\U0" ∷ codes "\\u00" ∷ codes "\\U00" ∷ codes "0\\u00" ∷ codes "0\\U00" ∷ codes "\\u000" ∷ codes "\\U000" ∷ codes "0\\u000"
+    ∷ codes "0\\U000" ∷ []

@@ -1,8 +1,10 @@
-ghost use Rattle.std.specs.Prelude.{◌<◌, ◌^◌, Ok, length, drop};
+ghost use Rattle.std.specs.Prelude.{◌<◌, ◌^◌, IsFalse, Ok, length, drop};
 ghost use Rattle.std.proofs.Math.Nat.{le_refl};
 ghost use Rattle.cq_munch.specs.Characters.{characters};
 ghost use Rattle.cq_munch.specs.Language.{Takes};
-ghost use Rattle.cq_lex_c.specs.C.{c, unmarked};
+ghost use Rattle.cq_munch.specs.Lexed.{unit_at};
+ghost use Rattle.cq_munch.specs.Tabled.{RowsTake};
+ghost use Rattle.cq_lex_c.specs.C.{c, is_blank, rows_at};
 ghost use Rattle.cq_lex_c.specs.OneKind.{one_kind_of_c};
 ghost use Rattle.cq_lex_c.specs.Splices.{spliced};
 ghost use Rattle.cq_lex_c.specs.Unclosed.{IsTrueOf};
@@ -22,12 +24,12 @@ pub struct C {
     unclosed: Unclosed,
 }
 
-// The element at a unit, if there is no byte order mark, before its mode. After most characters no text in quotes is looked for.
+// The element at a unit that is no blank and no byte order mark, with the mode before it. After most characters no text in quotes is looked for.
 fn found_at(unclosed: &mut Unclosed, units: &[Unit], at: u32, mode: u64) -> Option<Found>
     requires inside { at < length units.now }
     requires short { length units.now < 2 ^ 32 }
     requires remembered { IsTrueOf unclosed.old (characters units.now) }
-    ensures found { Takes unmarked at mode (drop at (characters units.now)) result }
+    ensures found { RowsTake (rows_at mode (drop at (characters units.now))) mode (drop at (characters units.now)) result }
     ensures remembered { IsTrueOf unclosed.new (characters units.now) }
 {
     let rest = &units[at as usize..];
@@ -39,10 +41,11 @@ fn found_at(unclosed: &mut Unclosed, units: &[Unit], at: u32, mode: u64) -> Opti
     taken(rest, mode, text, prefixed)
 }
 
-// The element at a unit.
+// The element at a unit that is no blank.
 fn taken_at(unclosed: &mut Unclosed, units: &[Unit], at: u32, mode: u64) -> Option<Found>
     requires inside { at < length units.now }
     requires short { length units.now < 2 ^ 32 }
+    requires visible { IsFalse (is_blank mode (unit_at units.now at).ch) }
     requires remembered { IsTrueOf unclosed.old (characters units.now) }
     ensures taken { Takes c at mode (drop at (characters units.now)) result }
     ensures remembered { IsTrueOf unclosed.new (characters units.now) }
@@ -52,7 +55,7 @@ fn taken_at(unclosed: &mut Unclosed, units: &[Unit], at: u32, mode: u64) -> Opti
         return Some(Found {
             spell: Spell::Blank,
             units: 1,
-            mode,
+            mode: mode_behind_blank(mode, units[at as usize].ch),
         });
     }
     match found_at(unclosed, units, at, mode) {

@@ -1,20 +1,17 @@
 -- No spelling is of two kinds: the table finds one row for each.
-use Rattle.std.proofs.Common.{◌≡◌, ◌-◌, true, [], ◌∷◌, map, refl}
-use Rattle.std.specs.List.{list_all}
-use Rattle.cq_munch.specs.Automata.{Tables, entry_at, row_fits, rows_fit, fits}
-use Rattle.cq_munch.specs.Behind.{any_takes_empty}
+use Rattle.std.proofs.Common.{◌≡◌, true, refl}
+use Rattle.cq_munch.specs.Automata.{Tables, row_fits, rows_fit, fits}
 use Rattle.cq_munch.specs.Language.{HasOneKind}
 use Rattle.cq_munch.specs.Patterned.{patterns_of}
 use Rattle.cq_munch.specs.PlainNames.{plain_fits}
 use Rattle.cq_munch.specs.Quotes.{quoted}
 use Rattle.cq_munch.specs.Scanners.{IsScanner}
-use Rattle.cq_munch.specs.Table.{table}
+use Rattle.cq_munch.specs.Tabled.{stays}
 use Rattle.cq_munch.specs.declared.ends.LineEnds.TheVariants.{Feed}
-use Rattle.cq_munch.proofs.OneKind.{of_table, of_commented, of_marked}
-use Rattle.cq_munch.proofs.Reserving.{one_kind_reserved, words_spelled}
+use Rattle.cq_munch.proofs.OneKind.{of_language, of_tests, one_block, one_line}
+use Rattle.cq_munch.proofs.Reserving.{one_kind_reserved, scanner_of}
 use Rattle.cq_munch.proofs.Seen.{itself_below}
-use Rattle.cq_munch.proofs.Steps.{behind_word}
-use Rattle.cq_lex_go.specs.Go.{go, others, rows, unmarked}
+use Rattle.cq_lex_go.specs.Go.{go, is_blank, others, rows, rows_at, tests}
 use Rattle.cq_lex_go.specs.Numbers.{number}
 use Rattle.cq_lex_go.specs.RawStrings.{raw_string}
 use Rattle.cq_lex_go.specs.Scanner.{scanned, texts}
@@ -29,24 +26,11 @@ pub scanner_fits : fits (patterns_of scanned) texts scanner ≡ true
 unfolding fits rows_fit row_fits name number quoted raw_string
 scanner_fits = refl
 
-plain_names : plain_fits NAMES scanner (entry_at scanner 0 97 - 1) 0 ≡ true
-unfolding plain_fits
-plain_names = refl
-
-keywords_pass : list_all (λ w. any_takes_empty (behind_word (map stood w) (name ∷ []))) keywords ≡ true
-unfolding name
-keywords_pass = refl
-
 pub is_scanner : IsScanner stood name keywords others NAMES SPELLS scanner
-is_scanner = record {
-  texts = texts;
-  state = entry_at scanner 0 97 - 1;
-  fits = (refl, scanner_fits);
-  plain = plain_names;
-  itself = itself_below is_letter is_digit;
-  words_named = words_spelled stood name keywords keywords_pass;
-  no_names = refl;
-}
+unfolding plain_fits name
+is_scanner = scanner_of stood name keywords others NAMES SPELLS scanner texts (itself_below is_letter is_digit) (refl, scanner_fits) refl refl refl
 
 pub one_kind_of_go : HasOneKind go
-one_kind_of_go = of_marked unmarked (of_commented Feed (table rows) (of_table rows (one_kind_reserved stood name keywords others NAMES SPELLS scanner is_scanner)))
+one_kind_of_go =
+    of_language is_blank rows_at stays
+    (λ mode text. of_tests (tests text) rows (one_block, (one_line Feed, one_kind_reserved stood name keywords others NAMES SPELLS scanner is_scanner)))

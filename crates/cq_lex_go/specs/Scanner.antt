@@ -14,6 +14,6 @@ scanned = (Token Ident, name) ∷ others
 abbrev pub texts : List (List ℕ)
 texts =
     codes "0" ∷ codes "1" ∷ codes "a" ∷ codes "!" ∷ codes "\"" ∷ codes "&" ∷ codes "'" ∷ codes "(" ∷ codes "+" ∷ codes "-" ∷ codes "." ∷ codes "<"
-    ∷ codes ">" ∷ codes "`" ∷ codes "|" ∷ codes " " ∷ codes "00" ∷ codes "08" ∷ codes "0b" ∷ codes "0e" ∷ codes "0i" ∷ codes "0o" ∷ codes "0x" ∷ codes "0."
-    ∷ codes "0_" ∷ codes "10" ∷ codes "1_" ∷ codes "\"\"" ∷ codes "\"\\" ∷ codes "'0" ∷ codes "'\\" ∷ codes ".0" ∷ codes ".." ∷ codes "``" ∷ codes "08_" ∷ codes "0b0"
-    ∷ codes "0b_" ∷ codes "0e0" ∷ codes "0e+" ∷ codes "0o0" ∷ codes "0o_" ∷ codes "0x0" ∷ codes "0x." ∷ codes "0x_" ∷ codes "'0'" ∷ codes ".0_" ∷ codes "0x0." ∷ codes "0x.0" ∷ []
+    ∷ codes ">" ∷ codes "`" ∷ codes "|" ∷ codes "00" ∷ codes "08" ∷ codes "0b" ∷ codes "0e" ∷ codes "0i" ∷ codes "0o" ∷ codes "0x" ∷ codes "0." ∷ codes "0_"
+    ∷ codes "10" ∷ codes "1_" ∷ codes "\"\"" ∷ codes "\"\\" ∷ codes "'0" ∷ codes "'\\" ∷ codes ".0" ∷ codes ".." ∷ codes "``" ∷ codes "08_" ∷ codes "0b0" ∷ codes "0b_"
+    ∷ codes "0e0" ∷ codes "0e+" ∷ codes "0o0" ∷ codes "0o_" ∷ codes "0x0" ∷ codes "0x." ∷ codes "0x_" ∷ codes "'0'" ∷ codes ".0_" ∷ codes "0x0." ∷ codes "0x.0" ∷ []

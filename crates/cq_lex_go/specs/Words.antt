@@ -1,4 +1,4 @@
--- Blanks, names, keywords and punctuation (Go specification, "Tokens", "Identifiers", "Keywords", "Operators and
+-- Names, keywords and punctuation (Go specification, "Identifiers", "Keywords", "Operators and
 -- punctuation", "Letters and digits").
 use Rattle.std.specs.Prelude.{ℕ, Bool, true, false, ◌||◌, ◌==◌, List, [], ◌∷◌, map, codes}
 use Rattle.cq_munch.specs.Pattern.{Pattern, Spells, among, many, ◌▸◌, ◌∣◌}
@@ -6,10 +6,6 @@ use Rattle.cq_munch.specs.Characters.{seen_as}
 use Rattle.ucd_category.specs.GeneralCategory.{general_category}
 use Rattle.ucd_category.specs.declared.GeneralCategory.{GeneralCategory}
 use Rattle.ucd_category.specs.declared.GeneralCategory.TheVariants.{UppercaseLetter, LowercaseLetter, TitlecaseLetter, ModifierLetter, OtherLetter, DecimalNumber}
-
--- space, tab, carriage return and line feed
-abbrev pub blank_characters : List (List ℕ)
-blank_characters = (32 ∷ []) ∷ (9 ∷ []) ∷ (13 ∷ []) ∷ (10 ∷ []) ∷ []
 
 abbrev pub keywords : List (List ℕ)
 keywords = codes "break" ∷ codes "case" ∷ codes "chan" ∷ codes "const" ∷ codes "continue" ∷ codes "default" ∷ codes "defer" ∷ codes "else" ∷ codes "fallthrough" ∷ codes "for" ∷ codes "func" ∷ codes "go" ∷ codes "goto" ∷ codes "if" ∷ codes "import" ∷ codes "interface" ∷ codes "map" ∷ codes "package" ∷ codes "range" ∷ codes "return" ∷ codes "select" ∷ codes "struct" ∷ codes "switch" ∷ codes "type" ∷ codes "var" ∷ []

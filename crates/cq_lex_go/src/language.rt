@@ -1,35 +1,69 @@
-ghost use Rattle.std.specs.Prelude.{◌<◌, ◌^◌, Ok, ⊤, length, drop};
+ghost use Rattle.std.specs.Prelude.{◌<◌, ◌^◌, Ok, ⊤, length};
 ghost use Rattle.cq_munch.specs.Characters.{characters};
-ghost use Rattle.cq_munch.specs.Language.{Takes};
-ghost use Rattle.cq_lex_go.specs.Go.{go};
+ghost use Rattle.cq_munch.specs.Tabled.{RowsTake, stays};
+ghost use Rattle.cq_lex_go.specs.Go.{go, is_blank, rows, rows_at};
 ghost use Rattle.cq_lex_go.specs.OneKind.{one_kind_of_go};
 ghost use Rattle.cq_lex_go.specs.NoneLost.{none_lost};
 ghost use Rattle.cq_lex_go.specs.Semicolons.{completed};
 
-use crate::element::{is_blank, taken};
+use crate::scanner::{CLASSES, ENDS, NAMES, SPELLS, STEPS};
 use crate::semicolon::with_semicolons;
+use crate::words::{RESERVED, Seen};
 use cq_base::{Memory, Spelled, Text};
-use cq_munch::{Found, Lexis, Spell, Translated, Unit, is_mark, plain_units};
+use cq_munch::{
+    Automaton, Found, Lexis, LineEnds, Spell, Tabled, Translated, Unit, block_comment, element_at,
+    line_comment, named_found, opens_comment, plain_units,
+};
 use std::alloc::Global;
 
 /// The language Go.
 #[derive(Clone, Copy, Debug, PartialEq, Eq)]
 pub struct Go;
 
-// The element at a unit.
-fn taken_at(units: &[Unit], at: u32, mode: u64) -> Option<Found>
-    requires inside { at < length units.now }
-    requires short { length units.now < 2 ^ 32 }
-    ensures { Takes go at mode (drop at (characters units.now)) result }
+// The element at the front, if no comment is opened.
+fn element(units: &[Unit], mode: u64) -> Option<Found>
+    requires { length units.now < 2 ^ 32 }
+    ensures { RowsTake rows mode (characters units.now) result }
 {
-    if is_mark(units, at) {
-        return Some(Found {
-            spell: Spell::Blank,
-            units: 1,
-            mode,
-        });
+    let by = Automaton {
+        classes: &CLASSES,
+        steps: &STEPS,
+        ends: &ENDS,
+    };
+    named_found::<Seen>(by, &NAMES, &SPELLS, &RESERVED, mode, units)
+}
+
+impl Tabled for Go {
+    ghost is_blank = { is_blank };
+
+    ghost rows = { rows_at };
+
+    ghost behind = { stays };
+
+    #[inline(always)]
+    fn is_blank(_mode: u64, ch: char) -> bool {
+        ch == ' ' || ch == '\t' || ch == '\r' || ch == '\n'
     }
-    taken(&units[at as usize..], mode)
+
+    #[inline(always)]
+    fn after_blank(mode: u64, _ch: char) -> u64 {
+        mode
+    }
+
+    fn taken(units: &[Unit], mode: u64) -> Option<Found> {
+        if opens_comment(units, '*') {
+            return block_comment(units, mode);
+        }
+        if opens_comment(units, '/') {
+            return line_comment(LineEnds::Feed, units, mode);
+        }
+        element(units, mode)
+    }
+
+    #[inline(always)]
+    fn mode_behind(mode: u64, _spell: Spell, _units: &[Unit]) -> u64 {
+        mode
+    }
 }
 
 impl Lexis for Go {
@@ -52,14 +86,7 @@ impl Lexis for Go {
     // So that a blank costs the loop over the elements no call.
     #[inline(always)]
     fn longest(&mut self, units: &[Unit], at: u32, mode: u64) -> Option<Found> {
-        if is_blank(units[at as usize].ch) {
-            return Some(Found {
-                spell: Spell::Blank,
-                units: 1,
-                mode,
-            });
-        }
-        taken_at(units, at, mode)
+        element_at::<Go>(units, at, mode)
     }
 
     fn complete(alloc: Global, text: &Text, tokens: Vec<Spelled>) -> Result<Vec<Spelled>, Memory> {

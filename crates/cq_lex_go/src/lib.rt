@@ -5,7 +5,6 @@
 //! semicolons cost one look at each byte between two tokens, and one move of each token.
 #![tactic(auto)]
 
-mod element;
 mod language;
 mod scanner;
 mod semicolon;

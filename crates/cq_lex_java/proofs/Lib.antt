@@ -3,7 +3,5 @@ pub mod Spans
 pub mod Translating
 pub mod Scalars
 pub mod NoEscapes
-pub mod Dispatch
-pub mod Blanks
 pub mod Counting
 pub mod TextBlocks

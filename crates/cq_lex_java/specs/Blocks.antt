@@ -1,7 +1,10 @@
 -- Text blocks (JLS 3.10.6). What an escape means is not checked.
 use Rattle.std.specs.Prelude.{ℕ, Bool, false, ◌==◌, ◌||◌, ◌&&◌, List, [], ◌∷◌, drop}
+use Rattle.cq_base.specs.declared.token.Class.TheVariants.{Literal}
 use Rattle.cq_munch.specs.Pattern.{Pattern, among, except, ◌▸◌, ◌∣◌, many, optional, only, one_of}
+use Rattle.cq_munch.specs.Patterned.{Patterned}
 use Rattle.cq_munch.specs.Table.{begins}
+use Rattle.cq_munch.specs.declared.element.Spell.TheVariants.{Token}
 
 abbrev pub quote : Pattern
 quote = only 34
@@ -33,6 +36,9 @@ part = optional (quote ▸ optional quote) ▸ character
 -- three quotes, blanks, a line end, the content, and three quotes
 unfoldable pub text_block : Pattern
 text_block = quotes ▸ many space ▸ line_end ▸ many part ▸ quotes
+
+abbrev pub text_blocks : Patterned
+text_blocks = (Token Literal, text_block) ∷ []
 
 -- ---- whether one is opened: three quotes, and blanks up to the end of their line
 

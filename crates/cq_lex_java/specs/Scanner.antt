@@ -14,7 +14,7 @@ scanned = (Token Ident, identifier) ∷ others
 abbrev pub texts : List (List ℕ)
 texts =
     codes "0" ∷ codes "1" ∷ codes "a" ∷ codes "!" ∷ codes "\"" ∷ codes "&" ∷ codes "'" ∷ codes "(" ∷ codes "+" ∷ codes "-" ∷ codes "." ∷ codes ":"
-    ∷ codes "<" ∷ codes ">" ∷ codes "|" ∷ codes " " ∷ codes "00" ∷ codes "08" ∷ codes "0b" ∷ codes "0d" ∷ codes "0e" ∷ codes "0x" ∷ codes "0." ∷ codes "0_"
-    ∷ codes "10" ∷ codes "1_" ∷ codes "\"\"" ∷ codes "\"\\" ∷ codes "'0" ∷ codes "'\\" ∷ codes ".0" ∷ codes ".." ∷ codes ">>" ∷ codes "00_" ∷ codes "08_" ∷ codes "0b0"
-    ∷ codes "0e0" ∷ codes "0e+" ∷ codes "0x0" ∷ codes "0x." ∷ codes "10_" ∷ codes "'0'" ∷ codes ".0_" ∷ codes ">>>" ∷ codes "0b0_" ∷ codes "0e0_" ∷ codes "0x0p" ∷ codes "0x0."
-    ∷ codes "0x0_" ∷ codes "0x.0" ∷ codes "0x.0_" ∷ []
+    ∷ codes "<" ∷ codes ">" ∷ codes "|" ∷ codes "00" ∷ codes "08" ∷ codes "0b" ∷ codes "0d" ∷ codes "0e" ∷ codes "0x" ∷ codes "0." ∷ codes "0_" ∷ codes "10"
+    ∷ codes "1_" ∷ codes "\"\"" ∷ codes "\"\\" ∷ codes "'0" ∷ codes "'\\" ∷ codes ".0" ∷ codes ".." ∷ codes ">>" ∷ codes "00_" ∷ codes "08_" ∷ codes "0b0" ∷ codes "0e0"
+    ∷ codes "0e+" ∷ codes "0x0" ∷ codes "0x." ∷ codes "10_" ∷ codes "'0'" ∷ codes ".0_" ∷ codes ">>>" ∷ codes "0b0_" ∷ codes "0e0_" ∷ codes "0x0p" ∷ codes "0x0." ∷ codes "0x0_"
+    ∷ codes "0x.0" ∷ codes "0x.0_" ∷ []

@@ -1,12 +1,8 @@
--- Identifiers, keywords and blanks (JLS 3.6, 3.8, 3.9). Contextual keywords are identifiers.
+-- Identifiers and keywords (JLS 3.8, 3.9). Contextual keywords are identifiers.
 use Rattle.std.specs.Prelude.{ℕ, Bool, ◌||◌, ◌==◌, List, [], ◌∷◌, codes}
 use Rattle.cq_munch.specs.Pattern.{Pattern, among, many, ◌▸◌}
 use Rattle.cq_munch.specs.Characters.{seen_as}
 use Rattle.unicode_ident.specs.Ident.{is_xid_start, is_xid_continue}
-
--- space, tab, form feed, carriage return and line feed
-abbrev pub blank_characters : List (List ℕ)
-blank_characters = (32 ∷ []) ∷ (9 ∷ []) ∷ (12 ∷ []) ∷ (13 ∷ []) ∷ (10 ∷ []) ∷ []
 
 -- the keywords, and the literals true, false and null
 abbrev pub keywords : List (List ℕ)

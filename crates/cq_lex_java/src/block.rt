@@ -1,9 +1,8 @@
-ghost use Rattle.std.specs.Prelude.{◌≡◌, ◌<◌, ◌^◌, ℕ, [], ◌∷◌, length};
+ghost use Rattle.std.specs.Prelude.{◌≡◌, ◌<◌, ◌^◌, length};
 ghost use Rattle.cq_munch.specs.Characters.{characters};
-ghost use Rattle.cq_munch.specs.Language.{Takes};
-ghost use Rattle.cq_munch.specs.Table.{table};
-ghost use Rattle.cq_lex_java.specs.Blocks.{is_line_end, is_space, opens, opening};
-ghost use Rattle.cq_lex_java.specs.Java.{text_blocks};
+ghost use Rattle.cq_munch.specs.Patterned.{rows_of};
+ghost use Rattle.cq_munch.specs.Tabled.{RowsTake};
+ghost use Rattle.cq_lex_java.specs.Blocks.{is_line_end, is_space, opens, opening, text_blocks};
 ghost use Rattle.cq_lex_java.specs.TextBlocks.{TextBlocksAreWritten};
 
 use cq_base::Class;
@@ -52,7 +51,7 @@ pub(crate) fn opens_block(units: &[Unit]) -> bool
 /// The text block at the front, if it is closed.
 pub(crate) fn closed_block(units: &[Unit], mode: u64) -> Option<Found>
     requires { length units.now < 2 ^ 32 }
-    ensures { (at : ℕ) → Takes (table (text_blocks ∷ [])) at mode (characters units.now) result }
+    ensures { RowsTake (rows_of text_blocks) mode (characters units.now) result }
 {
     let by = Automaton {
         classes: &CLASSES,

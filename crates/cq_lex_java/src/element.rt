@@ -1,27 +1,15 @@
-ghost use Rattle.std.specs.Prelude.{◌≡◌, ◌<◌, ◌^◌, ◌==◌, ◌||◌, ℕ, length};
+ghost use Rattle.std.specs.Prelude.{◌≡◌, ◌<◌, ◌^◌, length};
 ghost use Rattle.cq_munch.specs.Characters.{characters};
-ghost use Rattle.cq_munch.specs.Language.{Takes};
-ghost use Rattle.cq_munch.specs.Table.{table};
-ghost use Rattle.cq_lex_java.specs.Java.{rows, unmarked};
+ghost use Rattle.cq_munch.specs.Tabled.{RowsTake};
+ghost use Rattle.cq_lex_java.specs.Java.{rows};
 ghost use Rattle.cq_lex_java.specs.Openers.{is_end};
 
-use crate::block::{closed_block, opens_block};
 use crate::scanner::{CLASSES, ENDS, NAMES, SPELLS, STEPS};
 use crate::words::{RESERVED, Seen};
-use cq_munch::{
-    Automaton, Found, LineEnds, Spell, Unit, found_of, longest_block_comment, longest_line_comment,
-    named_found, opens_comment,
-};
+use cq_munch::{Automaton, Found, Unit, named_found};
 
-/// Whether the character is a blank.
-pub(crate) fn is_blank(ch: char) -> bool
-    ensures { result ≡ ((ch == 32) || ((ch == 9) || ((ch == 12) || ((ch == 13) || (ch == 10))))) }
-{
-    ch == ' ' || ch == '\t' || ch == '\u{C}' || ch == '\r' || ch == '\n'
-}
-
-// Whether the character U+001A is all that is left.
-fn is_end(units: &[Unit]) -> bool
+/// Whether the character U+001A is all that is left.
+pub(crate) fn is_end(units: &[Unit]) -> bool
     ensures { result ≡ is_end (characters units.now) }
 {
     match units {
@@ -30,10 +18,10 @@ fn is_end(units: &[Unit]) -> bool
     }
 }
 
-// The element at the front, if nothing is opened.
-fn element(units: &[Unit], mode: u64) -> Option<Found>
+/// The element at the front, if nothing is opened.
+pub(crate) fn element(units: &[Unit], mode: u64) -> Option<Found>
     requires { length units.now < 2 ^ 32 }
-    ensures { (at : ℕ) → Takes (table rows) at mode (characters units.now) result }
+    ensures { RowsTake rows mode (characters units.now) result }
 {
     let by = Automaton {
         classes: &CLASSES,
@@ -41,28 +29,4 @@ fn element(units: &[Unit], mode: u64) -> Option<Found>
         ends: &ENDS,
     };
     named_found::<Seen>(by, &NAMES, &SPELLS, &RESERVED, mode, units)
-}
-
-/// The element at the front, if there is no byte order mark.
-pub(crate) fn taken(units: &[Unit], mode: u64) -> Option<Found>
-    requires { length units.now < 2 ^ 32 }
-    ensures { (at : ℕ) → Takes unmarked at mode (characters units.now) result }
-{
-    if opens_comment(units, '*') {
-        return found_of(Spell::Comment, mode, longest_block_comment(units));
-    }
-    if opens_comment(units, '/') {
-        return found_of(
-            Spell::Comment,
-            mode,
-            longest_line_comment(LineEnds::ReturnOrFeed, units),
-        );
-    }
-    if opens_block(units) {
-        return closed_block(units, mode);
-    }
-    if is_end(units) {
-        return found_of(Spell::Blank, mode, Some(1));
-    }
-    element(units, mode)
 }

@@ -1,4 +1,1 @@
-pub mod Dispatch
-pub mod Blanks
-pub mod After
 pub mod Stacks

@@ -1,18 +1,19 @@
 -- The table of JavaScript's elements (ECMA-262, 16th edition, clause 12).
-use Rattle.std.specs.Prelude.{◌≡◌, ℕ, Bool, ◌&&◌, ◌||◌, ◌==◌, false, List, [], ◌∷◌, map, codes}
+use Rattle.std.specs.Prelude.{ℕ, Bool, not, ◌&&◌, ◌||◌, ◌==◌, false, List, [], ◌∷◌, codes}
 use Rattle.std.specs.Char.{is_ascii_digit}
-use Rattle.cq_base.specs.declared.token.Class.TheVariants.{Literal, Punct}
-use Rattle.cq_munch.specs.Commented.{commented}
-use Rattle.cq_munch.specs.Language.{Language, marked}
-use Rattle.cq_munch.specs.Pattern.{Pattern, Spells, except, only, many, ◌▸◌}
+use Rattle.cq_base.specs.declared.token.Class.TheVariants.{Punct}
+use Rattle.cq_munch.specs.Comments.{blocks, lines}
+use Rattle.cq_munch.specs.Language.{Language}
+use Rattle.cq_munch.specs.Pattern.{Pattern, except, only, many, ◌▸◌}
 use Rattle.cq_munch.specs.Patterned.{any_word, Patterned, rows_seen, with_reserved}
-use Rattle.cq_munch.specs.Table.{Row, table, first, moded, starts}
+use Rattle.cq_munch.specs.Table.{Row, begins, starts}
+use Rattle.cq_munch.specs.Tabled.{language_of, sign, tried}
 use Rattle.cq_munch.specs.declared.element.Spell.TheVariants.{Blank, Comment, Token}
 use Rattle.cq_munch.specs.declared.ends.LineEnds.TheVariants.{Separator}
 use Rattle.cq_lex_js.specs.Characters.{stood, lined}
 use Rattle.cq_lex_js.specs.Jsx.{children, tag}
-use Rattle.cq_lex_js.specs.Literals.{feeds, literal}
-use Rattle.cq_lex_js.specs.Modes.{is_full, ends_substitution, expects_operand, is_after_point, is_among_children, is_in_tag, mode_behind}
+use Rattle.cq_lex_js.specs.Literals.{feeds, literals}
+use Rattle.cq_lex_js.specs.Modes.{is_full, ends_substitution, expects_operand, is_after_point, is_among_children, is_in_element, is_in_tag, mode_behind}
 use Rattle.cq_lex_js.specs.Names.{name, keywords}
 use Rattle.cq_lex_js.specs.Punctuators.{punctuators, is_choice}
 
@@ -22,6 +23,10 @@ blank_characters = (9 ∷ []) ∷ (11 ∷ []) ∷ (12 ∷ []) ∷ (32 ∷ []) �
 
 abbrev pub is_blank : ℕ → Bool
 is_blank c = (c == 32) || ((c == 10) || ((c == 9) || ((c == 13) || ((c == 11) || (c == 12)))))
+
+-- they are blanks where neither a child nor a tag of JSX is read
+abbrev pub is_plain_blank : ℕ → ℕ → Bool
+is_plain_blank mode c = is_blank c && not (is_in_element mode)
 
 -- 12.5: a hash, an exclamation mark and the rest of the line
 unfoldable pub hashbang : Pattern
@@ -38,18 +43,6 @@ rows = with_reserved stood name keywords others
 abbrev pub properties : List Row
 properties = with_reserved stood name [] others
 
--- 12.9
-abbrev pub literals : Row
-literals = record { spell = Token Literal; set = λ s. Spells literal (map lined s) }
-
--- 12.8, OptionalChainingPunctuator: no `?.` before a digit
-abbrev pub choices : Row
-choices = record { spell = Token Punct; set = λ s. s ≡ codes "?" }
-
--- no spelling at all
-abbrev pub nothing : Row
-nothing = record { spell = Token Punct; set = λ s. ⊥ }
-
 abbrev pub is_quote : ℕ → Bool
 is_quote c = (c == 34) || ((c == 39) || (c == 96))
 
@@ -59,49 +52,30 @@ is_fraction _ = false
 
 -- A digit or a quote begins a literal, and so does a point before a digit; a slash does if an operand is expected, and a closing
 -- brace if it ends a substitution.
-abbrev pub opens_literal : ℕ → ℕ → List ℕ → Bool
-opens_literal at mode text =
+abbrev pub opens_literal : ℕ → List ℕ → Bool
+opens_literal mode text =
     starts (λ c. is_ascii_digit c || (is_quote c || (((c == 47) && expects_operand mode) || ((c == 125) && ends_substitution mode)))) text
     || is_fraction text
 
-abbrev pub follows_point : ℕ → ℕ → List ℕ → Bool
-follows_point at mode text = is_after_point mode
-
-abbrev pub opens_choice : ℕ → ℕ → List ℕ → Bool
-opens_choice at mode text = is_choice text
-
 -- if 29 substitutions, tags, children and braces inside them are open, nothing more is opened
-abbrev pub opens_deeper : ℕ → ℕ → List ℕ → Bool
-opens_deeper at mode text = is_full mode && starts (λ c. (c == 123) || ((c == 96) || ((c == 60) && expects_operand mode))) text
+abbrev pub opens_deeper : ℕ → List ℕ → Bool
+opens_deeper mode text = is_full mode && starts (λ c. (c == 123) || ((c == 96) || ((c == 60) && expects_operand mode))) text
 
--- JSX: children and tags have rows of their own
-abbrev pub opens_child : ℕ → ℕ → List ℕ → Bool
-opens_child at mode text = is_among_children mode
+-- What is tried: children and tags of JSX have rows of their own, and so do comments (12.4) and literals (12.9). No `?.` is before a
+-- digit (12.8, OptionalChainingPunctuator).
+abbrev pub tests : ℕ → List ℕ → List (Bool × List Row)
+tests mode text =
+    (opens_deeper mode text, [])
+    ∷ (is_among_children mode, rows_seen stood children)
+    ∷ (begins (codes "/*") text, blocks)
+    ∷ (begins (codes "//") text, lines Separator)
+    ∷ (is_in_tag mode, rows_seen stood tag)
+    ∷ (opens_literal mode text, rows_seen lined literals)
+    ∷ (is_choice text, sign (Token Punct) 63 ∷ [])
+    ∷ (is_after_point mode, properties) ∷ []
 
-abbrev pub opens_tag : ℕ → ℕ → List ℕ → Bool
-opens_tag at mode text = is_in_tag mode
-
--- If a comment (12.4) or one of these is opened, only its own rows are tried.
-abbrev pub with_properties : Language
-with_properties = first follows_point properties (table rows)
-
-abbrev pub with_choices : Language
-with_choices = first opens_choice (choices ∷ []) with_properties
-
-abbrev pub with_literals : Language
-with_literals = first opens_literal (literals ∷ []) with_choices
-
-abbrev pub with_tags : Language
-with_tags = first opens_tag (rows_seen stood tag) with_literals
-
-abbrev pub with_comments : Language
-with_comments = commented Separator with_tags
-
-abbrev pub with_children : Language
-with_children = first opens_child (rows_seen stood children) with_comments
-
-abbrev pub unmarked : Language
-unmarked = first opens_deeper (nothing ∷ []) with_children
+abbrev pub rows_at : ℕ → List ℕ → List Row
+rows_at mode text = tried (tests mode text) rows
 
 abbrev pub javascript : Language
-javascript = marked (moded mode_behind unmarked)
+javascript = language_of is_plain_blank rows_at mode_behind

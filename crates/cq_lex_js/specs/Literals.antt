@@ -1,7 +1,10 @@
 -- Strings, regular expressions and templates (ECMA-262 12.9.4, 12.9.5, 12.9.6). What an escape means is not checked. A line or
 -- paragraph separator stands here as 128.
 use Rattle.std.specs.Prelude.{ℕ, List, [], ◌∷◌}
+use Rattle.cq_base.specs.declared.token.Class.TheVariants.{Literal}
 use Rattle.cq_munch.specs.Pattern.{Range, Pattern, among, except, ◌▸◌, ◌∣◌, many, optional, only, one_of}
+use Rattle.cq_munch.specs.Patterned.{Patterned}
+use Rattle.cq_munch.specs.declared.element.Spell.TheVariants.{Token}
 use Rattle.cq_lex_js.specs.Numbers.{number}
 
 -- a line feed and a carriage return
@@ -58,3 +61,6 @@ template = one_of 96 125 ▸ many part ▸ many dollar ▸ (only 96 ∣ dollar �
 
 unfoldable pub literal : Pattern
 literal = number ∣ string ∣ regex ∣ template
+
+abbrev pub literals : Patterned
+literals = (Token Literal, literal) ∷ []

@@ -1,26 +1,25 @@
-ghost use Rattle.std.specs.Prelude.{◌<◌, ◌^◌, ℕ, length};
+ghost use Rattle.std.specs.Prelude.{◌<◌, ◌^◌, length};
 ghost use Rattle.cq_munch.specs.Characters.{characters};
-ghost use Rattle.cq_munch.specs.Language.{Takes};
 ghost use Rattle.cq_munch.specs.Patterned.{rows_seen};
-ghost use Rattle.cq_munch.specs.Table.{table};
+ghost use Rattle.cq_munch.specs.Tabled.{RowsTake};
 ghost use Rattle.cq_lex_js.specs.Characters.{stood};
 ghost use Rattle.cq_lex_js.specs.Jsx.{children};
 
 use crate::words::Seen;
 use cq_base::Class;
-use cq_munch::{Automaton, Found, Spell, Unit, longest_found};
+use cq_munch::{Automaton, Found, Spell, Unit, longest_seen};
 
 /// The element of the language at the front, among the children of an element of JSX.
 pub(crate) fn child(units: &[Unit], mode: u64) -> Option<Found>
     requires { length units.now < 2 ^ 32 }
-    ensures { (at : ℕ) → Takes (table (rows_seen stood children)) at mode (characters units.now) result }
+    ensures { RowsTake (rows_seen stood children) mode (characters units.now) result }
 {
     let by = Automaton {
         classes: &CLASSES,
         steps: &STEPS,
         ends: &ENDS,
     };
-    longest_found::<Seen>(
+    longest_seen::<Seen>(
         by,
         &[
             Spell::Blank,

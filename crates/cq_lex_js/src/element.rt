@@ -1,9 +1,8 @@
-ghost use Rattle.std.specs.Prelude.{◌≡◌, ◌<◌, ◌^◌, ◌&&◌, ◌||◌, ◌==◌, not, ℕ, length};
+ghost use Rattle.std.specs.Prelude.{◌≡◌, ◌<◌, ◌^◌, ◌&&◌, ◌||◌, ◌==◌, length};
 ghost use Rattle.cq_munch.specs.Characters.{characters};
-ghost use Rattle.cq_munch.specs.Language.{Takes};
-ghost use Rattle.cq_munch.specs.Table.{table};
-ghost use Rattle.cq_lex_js.specs.JavaScript.{is_blank, opens_deeper, properties, rows, unmarked, with_comments};
-ghost use Rattle.cq_lex_js.specs.Modes.{expects_operand, is_in_element};
+ghost use Rattle.cq_munch.specs.Tabled.{RowsTake};
+ghost use Rattle.cq_lex_js.specs.JavaScript.{is_blank, is_plain_blank, opens_deeper, properties, rows, rows_at};
+ghost use Rattle.cq_lex_js.specs.Modes.{expects_operand};
 ghost use Rattle.cq_lex_js.specs.Punctuators.{is_choice};
 
 use crate::children::child;
@@ -16,8 +15,8 @@ use crate::tag::part_of_tag;
 use crate::words::{RESERVED, Seen};
 use cq_base::Class;
 use cq_munch::{
-    Automaton, Found, LineEnds, Spell, Unit, found_of, longest_block_comment, longest_line_comment,
-    named_found, opens_comment,
+    Automaton, Found, LineEnds, Spell, Unit, block_comment, line_comment, named_found,
+    opens_comment, sign_at,
 };
 
 // Whether the character is a blank of ASCII.
@@ -28,8 +27,8 @@ fn is_blank(ch: char) -> bool
 }
 
 /// Whether the character is a blank of ASCII, and neither a child nor a tag of JSX is read.
-pub(crate) fn is_plain_blank(ch: char, mode: u64) -> bool
-    ensures { result ≡ (is_blank ch && not (is_in_element mode)) }
+pub(crate) fn is_plain_blank(mode: u64, ch: char) -> bool
+    ensures { result ≡ is_plain_blank mode ch }
 {
     is_blank(ch) && !is_in_element(mode)
 }
@@ -52,7 +51,7 @@ fn is_opening(ch: char, mode: u64) -> bool
 
 // Whether what would open something is at the front, and nothing more may be open.
 fn opens_deeper(units: &[Unit], mode: u64) -> bool
-    ensures { result ≡ opens_deeper 0 mode (characters units.now) }
+    ensures { result ≡ opens_deeper mode (characters units.now) }
 {
     match units {
         [first, ..] => is_full(mode) && is_opening(first.ch, mode),
@@ -61,9 +60,10 @@ fn opens_deeper(units: &[Unit], mode: u64) -> bool
 }
 
 // The element at the front after a point, if nothing is opened.
+#[inline(always)]
 fn property(units: &[Unit], mode: u64) -> Option<Found>
     requires { length units.now < 2 ^ 32 }
-    ensures { (at : ℕ) → Takes (table properties) at mode (characters units.now) result }
+    ensures { RowsTake properties mode (characters units.now) result }
 {
     let by = Automaton {
         classes: &CLASSES,
@@ -74,9 +74,10 @@ fn property(units: &[Unit], mode: u64) -> Option<Found>
 }
 
 // The element at the front anywhere else, if nothing is opened.
+#[inline(always)]
 fn element(units: &[Unit], mode: u64) -> Option<Found>
     requires { length units.now < 2 ^ 32 }
-    ensures { (at : ℕ) → Takes (table rows) at mode (characters units.now) result }
+    ensures { RowsTake rows mode (characters units.now) result }
 {
     let by = Automaton {
         classes: &CLASSES,
@@ -86,20 +87,22 @@ fn element(units: &[Unit], mode: u64) -> Option<Found>
     named_found::<Seen>(by, &NAMES, &SPELLS, &RESERVED, mode, units)
 }
 
-// The element at the front, if it is no child of an element of JSX.
-fn outside(units: &[Unit], mode: u64) -> Option<Found>
+/// The element at the front, with the mode before it.
+pub(crate) fn taken(units: &[Unit], mode: u64) -> Option<Found>
     requires { length units.now < 2 ^ 32 }
-    ensures { (at : ℕ) → Takes with_comments at mode (characters units.now) result }
+    ensures { RowsTake (rows_at mode (characters units.now)) mode (characters units.now) result }
 {
+    if opens_deeper(units, mode) {
+        return None;
+    }
+    if is_among_children(mode) {
+        return child(units, mode);
+    }
     if opens_comment(units, '*') {
-        return found_of(Spell::Comment, mode, longest_block_comment(units));
+        return block_comment(units, mode);
     }
     if opens_comment(units, '/') {
-        return found_of(
-            Spell::Comment,
-            mode,
-            longest_line_comment(LineEnds::Separator, units),
-        );
+        return line_comment(LineEnds::Separator, units, mode);
     }
     if is_in_tag(mode) {
         return part_of_tag(units, mode);
@@ -108,24 +111,10 @@ fn outside(units: &[Unit], mode: u64) -> Option<Found>
         return closed_literal(units, mode);
     }
     if is_choice(units) {
-        return found_of(Spell::Token(Class::Punct), mode, Some(1));
+        return sign_at('?', Spell::Token(Class::Punct), units, mode);
     }
     if is_after_point(mode) {
         return property(units, mode);
     }
     element(units, mode)
-}
-
-/// The element at the front, if there is no byte order mark, before its mode.
-pub(crate) fn taken(units: &[Unit], mode: u64) -> Option<Found>
-    requires { length units.now < 2 ^ 32 }
-    ensures { (at : ℕ) → Takes unmarked at mode (characters units.now) result }
-{
-    if opens_deeper(units, mode) {
-        return None;
-    }
-    if is_among_children(mode) {
-        return child(units, mode);
-    }
-    outside(units, mode)
 }

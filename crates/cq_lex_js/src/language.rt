@@ -1,41 +1,42 @@
-ghost use Rattle.std.specs.Prelude.{◌<◌, ◌^◌, Ok, ⊤, length, drop};
+ghost use Rattle.std.specs.Prelude.{Ok, ⊤, length};
 ghost use Rattle.std.proofs.Math.Nat.{le_refl};
-ghost use Rattle.cq_munch.specs.Characters.{characters};
-ghost use Rattle.cq_munch.specs.Language.{Takes};
-ghost use Rattle.cq_lex_js.specs.JavaScript.{javascript};
+ghost use Rattle.cq_lex_js.specs.JavaScript.{is_plain_blank, javascript, rows_at};
+ghost use Rattle.cq_lex_js.specs.Modes.{mode_behind};
 ghost use Rattle.cq_lex_js.specs.OneKind.{one_kind_of_javascript};
 
 use crate::element::{is_plain_blank, taken};
 use crate::mode::mode_behind;
 use cq_base::{Memory, Spelled, Text};
-use cq_munch::{Found, Lexis, Spell, Translated, Unit, is_mark, plain_units};
+use cq_munch::{Found, Lexis, Spell, Tabled, Translated, Unit, element_at, plain_units};
 use std::alloc::Global;
 
 /// The language JavaScript.
 #[derive(Clone, Copy, Debug, PartialEq, Eq)]
 pub struct JavaScript;
 
-// The element at a unit.
-fn taken_at(units: &[Unit], at: u32, mode: u64) -> Option<Found>
-    requires inside { at < length units.now }
-    requires short { length units.now < 2 ^ 32 }
-    ensures { Takes javascript at mode (drop at (characters units.now)) result }
-{
-    if is_mark(units, at) {
-        return Some(Found {
-            spell: Spell::Blank,
-            units: 1,
-            mode,
-        });
+impl Tabled for JavaScript {
+    ghost is_blank = { is_plain_blank };
+
+    ghost rows = { rows_at };
+
+    ghost behind = { mode_behind };
+
+    #[inline(always)]
+    fn is_blank(mode: u64, ch: char) -> bool {
+        is_plain_blank(mode, ch)
     }
-    let rest = &units[at as usize..];
-    match taken(rest, mode) {
-        None => None,
-        Some(found) => Some(Found {
-            spell: found.spell,
-            units: found.units,
-            mode: mode_behind(mode, found.spell, &rest[..found.units as usize]),
-        }),
+
+    #[inline(always)]
+    fn after_blank(mode: u64, _ch: char) -> u64 {
+        mode
+    }
+
+    fn taken(units: &[Unit], mode: u64) -> Option<Found> {
+        taken(units, mode)
+    }
+
+    fn mode_behind(mode: u64, spell: Spell, units: &[Unit]) -> u64 {
+        mode_behind(mode, spell, units)
     }
 }
 
@@ -59,14 +60,7 @@ impl Lexis for JavaScript {
     // So that a blank costs the loop over the elements no call.
     #[inline(always)]
     fn longest(&mut self, units: &[Unit], at: u32, mode: u64) -> Option<Found> {
-        if is_plain_blank(units[at as usize].ch, mode) {
-            return Some(Found {
-                spell: Spell::Blank,
-                units: 1,
-                mode,
-            });
-        }
-        taken_at(units, at, mode)
+        element_at::<JavaScript>(units, at, mode)
     }
 
     fn complete(

@@ -1,15 +1,17 @@
-ghost use Rattle.std.specs.Prelude.{◌≡◌, ◌<◌, ◌^◌, ℕ, [], ◌∷◌, ◌&&◌, ◌||◌, ◌==◌, length};
+ghost use Rattle.std.specs.Prelude.{◌≡◌, ◌<◌, ◌^◌, ◌&&◌, ◌||◌, ◌==◌, length};
 ghost use Rattle.std.specs.Char.{is_ascii_digit};
 ghost use Rattle.cq_munch.specs.Characters.{characters};
-ghost use Rattle.cq_munch.specs.Language.{Takes};
-ghost use Rattle.cq_munch.specs.Table.{table};
-ghost use Rattle.cq_lex_js.specs.JavaScript.{is_quote, literals, opens_literal};
+ghost use Rattle.cq_munch.specs.Patterned.{rows_seen};
+ghost use Rattle.cq_munch.specs.Tabled.{RowsTake};
+ghost use Rattle.cq_lex_js.specs.Characters.{lined};
+ghost use Rattle.cq_lex_js.specs.JavaScript.{is_quote, opens_literal};
+ghost use Rattle.cq_lex_js.specs.Literals.{literals};
 ghost use Rattle.cq_lex_js.specs.Modes.{ends_substitution, expects_operand};
 
 use crate::mode::{ends_substitution, expects_operand};
 use crate::words::Lined;
 use cq_base::Class;
-use cq_munch::{Automaton, Found, Spell, Unit, longest_found};
+use cq_munch::{Automaton, Found, Spell, Unit, longest_seen};
 
 fn is_quote(ch: char) -> bool
     ensures { result ≡ is_quote ch }
@@ -29,7 +31,7 @@ fn begins_literal(ch: char, mode: u64) -> bool
 
 /// Whether a literal is opened at the front.
 pub(crate) fn opens_literal(units: &[Unit], mode: u64) -> bool
-    ensures { result ≡ opens_literal 0 mode (characters units.now) }
+    ensures { result ≡ opens_literal mode (characters units.now) }
 {
     match units {
         [first, next, ..] => begins_literal(first.ch, mode)
@@ -40,16 +42,17 @@ pub(crate) fn opens_literal(units: &[Unit], mode: u64) -> bool
 }
 
 /// The literal at the front, if it is closed.
+#[inline(always)]
 pub(crate) fn closed_literal(units: &[Unit], mode: u64) -> Option<Found>
     requires { length units.now < 2 ^ 32 }
-    ensures { (at : ℕ) → Takes (table (literals ∷ [])) at mode (characters units.now) result }
+    ensures { RowsTake (rows_seen lined literals) mode (characters units.now) result }
 {
     let by = Automaton {
         classes: &CLASSES,
         steps: &STEPS,
         ends: &ENDS,
     };
-    longest_found::<Lined>(by, &[Spell::Token(Class::Literal)], mode, units)
+    longest_seen::<Lined>(by, &[Spell::Token(Class::Literal)], mode, units)
 }
 
 // What follows was written by bench/tables.

@@ -1,12 +1,11 @@
 ghost use Rattle.std.specs.Prelude.{◌≡◌, ◌≤◌, ◌-◌, ◌==◌, length, slice_index_or};
 ghost use Rattle.cq_base.specs.declared.token.Class.TheVariants.{Punct, Word};
 ghost use Rattle.cq_munch.specs.Characters.{characters};
-ghost use Rattle.cq_munch.specs.Table.{starts};
 ghost use Rattle.cq_lex_js.specs.Modes as spec;
 ghost use Rattle.cq_lex_js.specs.Stack.{WhatIsOpenIsAStack};
 
 use cq_base::Class;
-use cq_munch::{Spell, Unit, is_spelled};
+use cq_munch::{Spell, Unit, is_spelled, starts_with};
 
 pub(crate) fn with_token(mode: u64, token: u64) -> u64
     requires { token ≤ 3 }
@@ -164,15 +163,6 @@ fn after_word(mode: u64, word: &[Unit]) -> u64
     }
 }
 
-fn begins_with(ch: char, units: &[Unit]) -> bool
-    ensures { result ≡ starts (λ c. c == ch) (characters units.now) }
-{
-    match units {
-        [first, ..] => first.ch == ch,
-        [] => false,
-    }
-}
-
 fn ends_with_brace(units: &[Unit]) -> bool
     ensures { result ≡ (slice_index_or (characters units.now) (length (characters units.now) - 1) 0 == 123) }
 {
@@ -186,12 +176,12 @@ fn after_literal(mode: u64, units: &[Unit]) -> u64
     ensures { result ≡ spec.after_literal mode (characters units.now) }
 {
     if ends_with_brace(units) {
-        if begins_with('`', units) {
+        if starts_with('`', units) {
             return opened(mode, 1);
         }
         return with_token(mode, 0);
     }
-    if begins_with('}', units) {
+    if starts_with('}', units) {
         return with_token(closed(mode), 1);
     }
     with_token(mode, 1)

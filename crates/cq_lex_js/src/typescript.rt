@@ -1,14 +1,16 @@
-ghost use Rattle.std.specs.Prelude.{◌≡◌, ◌<◌, ◌^◌, ℕ, Ok, ⊤, length, drop};
+ghost use Rattle.std.specs.Prelude.{◌≡◌, Ok, ⊤, length};
 ghost use Rattle.std.proofs.Math.Nat.{le_refl};
 ghost use Rattle.cq_munch.specs.Characters.{characters};
-ghost use Rattle.cq_munch.specs.Language.{Takes};
+ghost use Rattle.cq_lex_js.specs.JavaScript.{is_plain_blank};
 ghost use Rattle.cq_lex_js.specs.OneKind.{one_kind_of_typescript};
 ghost use Rattle.cq_lex_js.specs.TypeScript as spec;
 
 use crate::element::{is_plain_blank, taken};
 use crate::mode::{after_punctuator, after_token, expects_operand, with_token};
 use cq_base::{Class, Memory, Spelled, Text};
-use cq_munch::{Found, Lexis, Spell, Translated, Unit, found_of, is_mark, is_spelled, plain_units};
+use cq_munch::{
+    Found, Lexis, Spell, Tabled, Translated, Unit, element_at, is_spelled, plain_units, sign_at,
+};
 use std::alloc::Global;
 
 /// The language TypeScript.
@@ -27,17 +29,6 @@ fn is_closing(units: &[Unit]) -> bool
         [a, b] => a.ch == '>' && b.ch == '>',
         _ => false,
     }
-}
-
-// The element at the front, if there is no byte order mark, before its mode.
-fn taken_typed(units: &[Unit], mode: u64) -> Option<Found>
-    requires { length units.now < 2 ^ 32 }
-    ensures { (at : ℕ) → Takes spec.typed at mode (characters units.now) result }
-{
-    if is_closing(units) {
-        return found_of(Spell::Token(Class::Punct), mode, Some(1));
-    }
-    taken(units, mode)
 }
 
 fn after_sign(mode: u64, units: &[Unit]) -> u64
@@ -61,37 +52,35 @@ fn after_typed(mode: u64, class: Class, units: &[Unit]) -> u64
     }
 }
 
-// The mode after an element of these units.
-fn typed_behind(mode: u64, spell: Spell, units: &[Unit]) -> u64
-    ensures { result ≡ spec.typed_behind mode spell (characters units.now) }
-{
-    match spell {
-        Spell::Blank | Spell::Comment => mode,
-        Spell::Token(class) => after_typed(mode, class, units),
-    }
-}
+impl Tabled for TypeScript {
+    ghost is_blank = { is_plain_blank };
 
-// The element at a unit.
-fn typed_at(units: &[Unit], at: u32, mode: u64) -> Option<Found>
-    requires inside { at < length units.now }
-    requires short { length units.now < 2 ^ 32 }
-    ensures { Takes spec.typescript at mode (drop at (characters units.now)) result }
-{
-    if is_mark(units, at) {
-        return Some(Found {
-            spell: Spell::Blank,
-            units: 1,
-            mode,
-        });
+    ghost rows = { spec.typed_at };
+
+    ghost behind = { spec.typed_behind };
+
+    #[inline(always)]
+    fn is_blank(mode: u64, ch: char) -> bool {
+        is_plain_blank(mode, ch)
     }
-    let rest = &units[at as usize..];
-    match taken_typed(rest, mode) {
-        None => None,
-        Some(found) => Some(Found {
-            spell: found.spell,
-            units: found.units,
-            mode: typed_behind(mode, found.spell, &rest[..found.units as usize]),
-        }),
+
+    #[inline(always)]
+    fn after_blank(mode: u64, _ch: char) -> u64 {
+        mode
+    }
+
+    fn taken(units: &[Unit], mode: u64) -> Option<Found> {
+        if is_closing(units) {
+            return sign_at('>', Spell::Token(Class::Punct), units, mode);
+        }
+        taken(units, mode)
+    }
+
+    fn mode_behind(mode: u64, spell: Spell, units: &[Unit]) -> u64 {
+        match spell {
+            Spell::Blank | Spell::Comment => mode,
+            Spell::Token(class) => after_typed(mode, class, units),
+        }
     }
 }
 
@@ -115,14 +104,7 @@ impl Lexis for TypeScript {
     // So that a blank costs the loop over the elements no call.
     #[inline(always)]
     fn longest(&mut self, units: &[Unit], at: u32, mode: u64) -> Option<Found> {
-        if is_plain_blank(units[at as usize].ch, mode) {
-            return Some(Found {
-                spell: Spell::Blank,
-                units: 1,
-                mode,
-            });
-        }
-        typed_at(units, at, mode)
+        element_at::<TypeScript>(units, at, mode)
     }
 
     fn complete(

@@ -1,14 +1,11 @@
 -- The element of a table, from the longest spellings of its rows.
 use Rattle.std.proofs.Common.{subst, ap, ◌≡◌, ℕ, ◌<◌, ◌≤◌, Option, Some, None, Bool, true, false, cond, ltb, List, [], ◌∷◌, inl, inr, ⊎_elim, length, take, refl, sym, ◌∙◌, arith}
-use Rattle.std.proofs.lemmas.Bool.{ltb-true, ltb-false, MatchBool-at_true, MatchBool-at_false}
-use Rattle.cq_base.proofs.Bools.{MatchBool-from_true, MatchBool-from_false}
+use Rattle.std.proofs.lemmas.Bool.{ltb-true, ltb-false}
 use Rattle.cq_munch.specs.Longest.{IsLongest, LongestAt}
 use Rattle.cq_munch.specs.declared.element.Found.{Found}
 use Rattle.cq_munch.specs.declared.element.Spell.{Spell}
 use Rattle.cq_munch.specs.Language.{Language, Takes}
-use Rattle.cq_munch.specs.Commented.{blocks, lines, opens_block, opens_line, commented}
-use Rattle.cq_munch.specs.Table.{Row, InTable, table, moded, first, better, found_of, begins}
-use Rattle.cq_munch.specs.declared.ends.LineEnds.{LineEnds}
+use Rattle.cq_munch.specs.Table.{Row, InTable, table, better, found_of}
 
 -- what one language takes, another takes that has it, and nothing longer
 module _ (lang other : Language) (at mode : ℕ) (text : List ℕ) (up : (spell : Spell) (s : List ℕ) → lang.tried at mode text spell s → other.tried at mode text spell s)
@@ -75,23 +72,6 @@ module _ (at mode : ℕ) (text : List ℕ) where
     one_row (Some n) None h k = from_row n h (λ m more within spell other. k m (let some = h.some in omega arith) within (spell, other))
     one_row (Some n) (Some f) h k = by_length n f (ltb n f.units) refl h k
 
--- where the test passes, the first rows alone
-module _ (test : ℕ → ℕ → List ℕ → Bool) (rows : List Row) (lang : Language) (at mode : ℕ) (text : List ℕ) where
-  pub takes_first : test at mode text ≡ true → (r : Option Found) → Takes (table rows) at mode text r → ((spell : Spell) (s : List ℕ) → lang.mode_behind mode spell s ≡ mode) → Takes (first test rows lang) at mode text r
-  takes_first h r taken same =
-      carried (table rows) (first test rows lang) at mode text (λ spell s x. MatchBool-from_true (test at mode text) (InTable rows spell s) (lang.tried at mode text spell s) h x) same
-      (λ spell m some within x. MatchBool-at_true (InTable rows spell (take m text)) (lang.tried at mode text spell (take m text)) h x) r taken
-
-  pub takes_rest : test at mode text ≡ false → (r : Option Found) → Takes lang at mode text r → Takes (first test rows lang) at mode text r
-  takes_rest h r taken =
-      carried lang (first test rows lang) at mode text (λ spell s x. MatchBool-from_false (test at mode text) (InTable rows spell s) (lang.tried at mode text spell s) h x) (λ spell s. refl)
-      (λ spell m some within x. MatchBool-at_false (InTable rows spell (take m text)) (lang.tried at mode text spell (take m text)) h x) r taken
-
--- where no comment is opened
-pub no_comment : (ends : LineEnds) (lang : Language) (at mode : ℕ) (text : List ℕ) (r : Option Found) → begins (47 ∷ 42 ∷ []) text ≡ false → begins (47 ∷ 47 ∷ []) text ≡ false → Takes lang at mode text r → Takes (commented ends lang) at mode text r
-no_comment ends lang at mode text r block line h =
-    takes_rest opens_block (blocks ∷ []) (first opens_line (lines ends ∷ []) lang) at mode text block r (takes_rest opens_line (lines ends ∷ []) lang at mode text line r h)
-
 -- one row more, by what `found_of` and `better` answered
 pub row_more : (at mode : ℕ) (text : List ℕ) (row : Row) (rows : List Row) (len : Option ℕ) (own r all : Option Found) → own ≡ found_of row.spell mode len → all ≡ better own r → LongestAt row.set text len
     → Takes (table rows) at mode text r → Takes (table (row ∷ rows)) at mode text all
@@ -105,15 +85,3 @@ better_none (Some f) = refl
 -- a table of one row
 pub one_row_taken : (at mode : ℕ) (text : List ℕ) (row : Row) (len : Option ℕ) (own : Option Found) → own ≡ found_of row.spell mode len → LongestAt row.set text len → Takes (table (row ∷ [])) at mode text own
 one_row_taken at mode text row len own is h = row_more at mode text row [] len own None own is (sym (better_none own)) h (no_rows at mode text)
-
--- an element, with the mode after it
-pub with_mode : (behind : ℕ → Spell → List ℕ → ℕ) (lang : Language) (at mode : ℕ) (text : List ℕ) (f : Found) (next : ℕ) → Takes lang at mode text (Some f) → next ≡ behind mode f.spell (take f.units text)
-    → Takes (moded behind lang) at mode text (Some (record { spell = f.spell; units = f.units; mode = next }))
-with_mode behind lang at mode text f next h is = (
-  record { some = h.0.some; within = h.0.within; spelled = h.0.spelled; longest = h.0.longest },
-  h.1,
-  is,
-)
-
-pub without : (behind : ℕ → Spell → List ℕ → ℕ) (lang : Language) (at mode : ℕ) (text : List ℕ) → Takes lang at mode text None → Takes (moded behind lang) at mode text None
-without behind lang at mode text h = h

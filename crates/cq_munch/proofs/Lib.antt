@@ -22,6 +22,6 @@ pub mod Once
 pub mod Seen
 pub mod Reserving
 pub mod Marks
-pub mod Blanks
+pub mod Trying
 pub mod MarkWords
 pub mod MarkOrder

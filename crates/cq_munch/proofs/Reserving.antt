@@ -1,14 +1,15 @@
 -- Names of which some words are reserved, and what a scanner finds.
-use Rattle.std.proofs.Common.{◌≡◌, ℕ, ◌<◌, not, true, Some, None, List, [], ◌∷◌, inl, inr, ⊎_elim, map, take, refl, sym, ap, ◌∙◌}
+use Rattle.std.proofs.Common.{◌≡◌, ℕ, ◌-◌, ◌<◌, not, true, Some, None, List, [], ◌∷◌, inl, inr, ⊎_elim, map, take, refl, sym, ap, ◌∙◌}
 use Rattle.std.specs.List.{list_all}
 use Rattle.std.proofs.lemmas.Bool.{and_parts, not-true, both_ways}
 use Rattle.cq_base.specs.declared.token.Class.TheVariants.{Ident, Word}
-use Rattle.cq_munch.specs.Automata.{Tables, row_of}
+use Rattle.cq_munch.specs.Automata.{Tables, entry_at, row_of}
 use Rattle.cq_munch.specs.Behind.{any_takes_empty}
 use Rattle.cq_munch.specs.Language.{Takes}
 use Rattle.cq_munch.specs.Longest.{IsAmong}
 use Rattle.cq_munch.specs.Pattern.{Pattern, Spells}
-use Rattle.cq_munch.specs.Patterned.{Patterned, rows_of, rows_seen, with_reserved}
+use Rattle.cq_munch.specs.Patterned.{FitsRows, Patterned, rows_of, rows_seen, with_reserved}
+use Rattle.cq_munch.specs.PlainNames.{IsItselfBelow, plain_fits}
 use Rattle.cq_munch.specs.Scanners.{IsScanner, is_name}
 use Rattle.cq_munch.specs.Table.{InTable, table}
 use Rattle.cq_munch.specs.declared.element.Found.{Found}
@@ -21,9 +22,23 @@ use Rattle.cq_munch.proofs.WordLists.{among_passes}
 use Rattle.cq_munch.proofs.Seen.{in_seen, one_kind_seen, taken_seen}
 
 -- words that are names, by computing
-pub words_spelled : (stood : ℕ → ℕ) (name : Pattern) (words : List (List ℕ)) → list_all (λ w. any_takes_empty (behind_word (map stood w) (name ∷ []))) words ≡ true → (s : List ℕ) → IsAmong words s → Spells name (map stood s)
+words_spelled : (stood : ℕ → ℕ) (name : Pattern) (words : List (List ℕ)) → list_all (λ w. any_takes_empty (behind_word (map stood w) (name ∷ []))) words ≡ true → (s : List ℕ) → IsAmong words s → Spells name (map stood s)
 words_spelled stood name words all s among =
     ⊎_elim (λ own. own) (λ none. absurd none) (word_if (map stood s) (name ∷ []) (among_passes words (λ w. any_takes_empty (behind_word (map stood w) (name ∷ []))) s all among))
+
+-- a scanner whose tests compute
+pub scanner_of : (stood : ℕ → ℕ) (name : Pattern) (words : List (List ℕ)) (others : Patterned) (kinds : List ℕ) (spells : List Spell) (t : Tables) (texts : List (List ℕ)) → IsItselfBelow 128 stood
+    → FitsRows ((Token Ident, name) ∷ others) texts spells t → plain_fits kinds t (entry_at t 0 97 - 1) 0 ≡ true → list_all (λ w. any_takes_empty (behind_word (map stood w) (name ∷ []))) words ≡ true
+    → list_all (λ (row : Spell × Pattern). not (is_name row.0)) others ≡ true → IsScanner stood name words others kinds spells t
+scanner_of stood name words others kinds spells t texts itself fits plain named no_names = record {
+  texts = texts;
+  state = entry_at t 0 97 - 1;
+  fits = fits;
+  plain = plain;
+  itself = itself;
+  words_named = words_spelled stood name words named;
+  no_names = no_names;
+}
 
 -- a row that is no name
 no_name : (others : Patterned) → list_all (λ (row : Spell × Pattern). not (is_name row.0)) others ≡ true → (spell : Spell) (s : List ℕ) → InTable (rows_of others) spell s → spell ≡ Token Ident → ⊥

@@ -1,9 +1,9 @@
 -- The elements that a table finds are those of its rows.
-use Rattle.std.proofs.Common.{◌≡◌, ℕ, zero, suc, ◌+◌, ◌-◌, ◌<◌, ◌≤◌, nat_le, Some, None, true, List, [], ◌∷◌, inl, inr, length, get_or, take, length-take-le, ⊎_elim, refl, sym, ap, subst, ◌∙◌, arith}
+use Rattle.std.proofs.Common.{◌≡◌, ℕ, zero, suc, ◌+◌, ◌-◌, ◌≤◌, nat_le, Some, None, true, List, [], ◌∷◌, inl, inr, length, get_or, take, ⊎_elim, refl, sym, ap, subst, ◌∙◌, arith}
 use Rattle.std.specs.List.{list_all}
 use Rattle.std.proofs.lemmas.Bool.{leb-true, and_parts}
 use Rattle.std.proofs.lemmas.List.{length-map}
-use Rattle.cq_munch.specs.Automata.{Tables, class_at, entry_at, row_from, row_of, HasRow, RowAt, rows_fit, fits}
+use Rattle.cq_munch.specs.Automata.{Tables, class_at, row_from, row_of, HasRow, RowAt, rows_fit, fits}
 use Rattle.cq_munch.specs.Behind.{SpellsAny}
 use Rattle.cq_munch.specs.Language.{Takes}
 use Rattle.cq_munch.specs.Pattern.{Pattern}
@@ -106,19 +106,3 @@ no_entry (e ∷ entries) h (suc k) = no_entry entries (and_parts (nat_le e 48) _
 -- nothing goes on from such a state
 pub no_more : (t : Tables) (n : ℕ) → list_all (λ e. nat_le e 48) (get_or t.steps n []) ≡ true → (d : ℕ) (s : List ℕ) → row_from t (suc n) (d ∷ s) ≡ 0
 no_more t n stops d s = ap (λ e. row_from t e s) (no_entry (get_or t.steps n []) stops (class_at t.classes d))
-
-pub alone : (t : Tables) (c n row : ℕ) (text : List ℕ) → entry_at t 0 c ≡ suc n → list_all (λ e. nat_le e 48) (get_or t.steps n []) ≡ true → get_or t.ends n 0 ≡ suc row → RowAt t (c ∷ text) (Some (1, row))
-alone t c n row text steps stops ends = (record { some = omega arith; within = omega arith; spelled = (let is = own in omega (arith, is)); longest = none_longer }, own)
-  where
-    own : row_of t (c ∷ []) ≡ suc row
-    own = ap (λ e. row_from t e []) steps ∙ ends
-
-    none_after : (s : List ℕ) → 0 < length s → HasRow t (c ∷ s) → ⊥
-    none_after [] some h = omega (arith, some)
-    none_after (d ∷ s) some h =
-        let stopped : row_from t (entry_at t 0 c) (d ∷ s) ≡ 0 = ap (λ e. row_from t e (d ∷ s)) steps ∙ no_more t n stops d s in
-        omega (arith, stopped, h)
-
-    none_longer : (m : ℕ) → 1 < m → m ≤ length (c ∷ text) → HasRow t (take m (c ∷ text)) → ⊥
-    none_longer zero more within h = omega (arith, more)
-    none_longer (suc m) more within h = none_after (take m text) (let long = length-take-le m text (omega (arith, within)) in omega (arith, long, more)) h

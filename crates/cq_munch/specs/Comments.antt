@@ -2,6 +2,8 @@
 use Rattle.std.specs.Prelude.{◌≡◌, ℕ, ◌==◌, Bool, true, false, List, [], ◌∷◌, IsTrue, IsFalse, MatchBool}
 use Rattle.std.specs.List.{AllByRecursion}
 use Rattle.cq_munch.specs.LineEnds.{ends_line}
+use Rattle.cq_munch.specs.Table.{Row}
+use Rattle.cq_munch.specs.declared.element.Spell.TheVariants.{Comment}
 use Rattle.cq_munch.specs.declared.ends.LineEnds.{LineEnds}
 
 -- a character, and what has to follow it
@@ -26,3 +28,10 @@ EndsAtClose false (c ∷ s) = EndsAtClose (c == 42) s
 -- a slash and a star, and then up to the first star followed by a slash
 abbrev pub IsBlockComment : List ℕ → Type 0
 IsBlockComment s = IsAfter 47 (IsAfter 42 (EndsAtClose false)) s
+
+-- the rows of comments
+abbrev pub blocks : List Row
+blocks = record { spell = Comment; set = IsBlockComment } ∷ []
+
+abbrev pub lines : LineEnds → List Row
+lines ends = record { spell = Comment; set = IsLineComment ends } ∷ []

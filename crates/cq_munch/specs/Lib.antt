@@ -7,15 +7,15 @@ pub mod Behind
 pub mod Automata
 pub mod Once
 pub mod LineEnds
-pub mod Comments
 pub mod Quotes
 pub mod Characters
 pub mod Language
 pub mod Table
+pub mod Tabled
+pub mod Comments
 pub mod Patterned
 pub mod PlainNames
 pub mod Scanners
-pub mod Commented
 pub mod ListingMarks
 pub mod Lexed
 pub mod Feeds

@@ -1,5 +1,5 @@
--- A language's table, row by row, and rows that come before it.
-use Rattle.std.specs.Prelude.{◌≡◌, ℕ, Bool, true, false, ◌⊎◌, ◌&&◌, ◌==◌, nat_lt, MatchBool, Option, Some, None, List, [], ◌∷◌, if◌then◌else◌}
+-- A language's table, row by row.
+use Rattle.std.specs.Prelude.{◌≡◌, ℕ, Bool, true, false, ◌⊎◌, ◌&&◌, ◌==◌, nat_lt, Option, Some, None, List, [], ◌∷◌, if◌then◌else◌}
 use Rattle.cq_munch.specs.declared.element.Spell.{Spell}
 use Rattle.cq_munch.specs.declared.element.Found.{Found}
 use Rattle.cq_munch.specs.Language.{Language}
@@ -16,17 +16,6 @@ InTable (row ∷ rows) spell s = ((spell ≡ row.spell) × row.set s) ⊎ InTabl
 -- the language that is just a table, with one mode
 abbrev pub table : List Row → Language
 table rows = record { tried = λ at mode text spell s. InTable rows spell s; mode_behind = λ mode spell s. mode }
-
--- the same rows, with the mode after an element
-abbrev pub moded : (ℕ → Spell → List ℕ → ℕ) → Language → Language
-moded behind lang = record { tried = lang.tried; mode_behind = behind }
-
--- If the test passes, at a unit, in a mode, before a text, only these rows are tried.
-abbrev pub first : (ℕ → ℕ → List ℕ → Bool) → List Row → Language → Language
-first test rows lang = record {
-  tried = λ at mode text spell s. MatchBool (test at mode text) (InTable rows spell s) (lang.tried at mode text spell s);
-  mode_behind = lang.mode_behind;
-}
 
 -- the longer of two elements
 abbrev pub better : Option Found → Option Found → Option Found

@@ -1,12 +1,11 @@
 ghost use Rattle.std.specs.Prelude.{◌≡◌, ℕ, suc, ◌-◌, ◌<◌, ◌≤◌, ◌^◌, IfErr, IfNone, IfOk, IfSome, IsFalse, IsTrue, List, [], None, Some, length, slice_index_or};
 ghost use Rattle.cq_munch.specs.Automata.{class_at, RowAt, tables_of};
 ghost use Rattle.cq_munch.specs.Characters.{characters, seen_by};
-ghost use Rattle.cq_munch.specs.Language.{Takes};
 ghost use Rattle.cq_munch.specs.Longest.{LongestAt};
 ghost use Rattle.cq_munch.specs.Once.{FitsOnce, NoneBegins};
 ghost use Rattle.cq_munch.specs.Pattern.{Pattern, Spells};
-ghost use Rattle.cq_munch.specs.Patterned.{FitsRows, Patterned, rows_of};
-ghost use Rattle.cq_munch.specs.Table.{table};
+ghost use Rattle.cq_munch.specs.Patterned.{FitsRows, Patterned, rows_of, rows_seen};
+ghost use Rattle.cq_munch.specs.Tabled.{RowsTake};
 
 use crate::element::{Found, Spell};
 use crate::rows::found_of;
@@ -128,7 +127,7 @@ pub fn longest_found<S: StandIn>(
     requires { length units.now < 2 ^ 32 }
     ensures within { IfSome result (λ found. found.units ≤ length units.now) }
     ensures found { (rows : Patterned) (texts : List (List ℕ)) → FitsRows rows texts spells.now (tables_of by.entry)
-        → (at : ℕ) → Takes (table (rows_of rows)) at mode (seen_by S.stood units.now) result }
+        → RowsTake (rows_of rows) mode (seen_by S.stood units.now) result }
 {
     match longest_row::<S>(by, units) {
         Some((len, row)) => match spells.get(row as usize) {
@@ -137,6 +136,20 @@ pub fn longest_found<S: StandIn>(
         },
         None => None,
     }
+}
+
+/// The same, of rows that see characters by what stands for them.
+pub fn longest_seen<S: StandIn>(
+    by: Automaton<'_>,
+    spells: &[Spell],
+    mode: u64,
+    units: &[Unit],
+) -> Option<Found>
+    requires { length units.now < 2 ^ 32 }
+    ensures { (rows : Patterned) (texts : List (List ℕ)) → FitsRows rows texts spells.now (tables_of by.entry)
+        → RowsTake (rows_seen S.stood rows) mode (characters units.now) result }
+{
+    longest_found::<S>(by, spells, mode, units)
 }
 
 // Whether a spelling may end in a state.

@@ -1,10 +1,13 @@
-ghost use Rattle.std.specs.Prelude.{◌≡◌, ◌==◌, ◌&&◌, [], ◌∷◌};
+ghost use Rattle.std.specs.Prelude.{◌≡◌, ◌<◌, ◌^◌, ◌==◌, ◌&&◌, [], ◌∷◌, length};
 ghost use Rattle.cq_munch.specs.Characters.{characters};
-ghost use Rattle.cq_munch.specs.Comments.{IsBlockComment, IsLineComment};
+ghost use Rattle.cq_munch.specs.Comments.{IsBlockComment, IsLineComment, blocks, lines};
 ghost use Rattle.cq_munch.specs.Longest.{LongestAt};
 ghost use Rattle.cq_munch.specs.Table.{begins};
+ghost use Rattle.cq_munch.specs.Tabled.{RowsTake};
 
+use crate::element::{Found, Spell};
 use crate::ends::{LineEnds, ends_line};
+use crate::rows::found_of;
 use crate::unit::Unit;
 
 /// Whether a slash and this character are at the front.
@@ -24,9 +27,9 @@ fn closes(before: char, ch: char) -> bool
     ch == '/' && before == '*'
 }
 
-/// The comment in slashes and stars at the front, if it is closed. After a character that is not a star it looks at the
-/// next but one, since no slash between them closes the comment.
-pub fn longest_block_comment(units: &[Unit]) -> Option<usize>
+// The comment in slashes and stars at the front, if it is closed. After a character that is not a star it looks at the
+// next but one, since no slash between them closes the comment.
+fn longest_block_comment(units: &[Unit]) -> Option<usize>
     ensures { LongestAt IsBlockComment (characters units.now) result }
 {
     if !opens_comment(units, '*') {
@@ -47,8 +50,8 @@ pub fn longest_block_comment(units: &[Unit]) -> Option<usize>
     None
 }
 
-/// The comment after two slashes at the front. What ends its line is not part of it.
-pub fn longest_line_comment(ends: LineEnds, units: &[Unit]) -> Option<usize>
+// The comment after two slashes at the front. What ends its line is not part of it.
+fn longest_line_comment(ends: LineEnds, units: &[Unit]) -> Option<usize>
     ensures { LongestAt (IsLineComment ends) (characters units.now) result }
 {
     if !opens_comment(units, '/') {
@@ -60,4 +63,20 @@ pub fn longest_line_comment(ends: LineEnds, units: &[Unit]) -> Option<usize>
         }
     }
     Some(units.len())
+}
+
+/// The comment in slashes and stars at the front, if it is closed.
+pub fn block_comment(units: &[Unit], mode: u64) -> Option<Found>
+    requires { length units.now < 2 ^ 32 }
+    ensures { RowsTake blocks mode (characters units.now) result }
+{
+    found_of(Spell::Comment, mode, longest_block_comment(units))
+}
+
+/// The comment after two slashes at the front. What ends its line is not part of it.
+pub fn line_comment(ends: LineEnds, units: &[Unit], mode: u64) -> Option<Found>
+    requires { length units.now < 2 ^ 32 }
+    ensures { RowsTake (lines ends) mode (characters units.now) result }
+{
+    found_of(Spell::Comment, mode, longest_line_comment(ends, units))
 }

@@ -3,11 +3,11 @@ ghost use Rattle.cq_munch.specs.Automata.{Tables, RowAt, tables_of};
 ghost use Rattle.cq_munch.specs.ByLetter.{IsListedByLetter};
 ghost use Rattle.cq_munch.specs.Characters.{characters, seen_by};
 ghost use Rattle.cq_munch.specs.PlainNames.{IsItselfBelow, begins_at, kind_at, plain_fits};
-ghost use Rattle.cq_munch.specs.Language.{Takes};
 ghost use Rattle.cq_munch.specs.Pattern.{Pattern};
 ghost use Rattle.cq_munch.specs.Patterned.{Patterned, rows_of, with_reserved};
 ghost use Rattle.cq_munch.specs.Scanners.{IsScanner, AreListed, is_name};
-ghost use Rattle.cq_munch.specs.Table.{starts, table};
+ghost use Rattle.cq_munch.specs.Table.{starts};
+ghost use Rattle.cq_munch.specs.Tabled.{RowsTake};
 ghost use Rattle.cq_munch.specs.declared.element.Spell.TheVariants.{Token};
 ghost use Rattle.cq_base.specs.declared.token.Class.TheVariants.{Ident};
 
@@ -72,7 +72,7 @@ fn row_found<S: StandIn>(
     requires { length units.now < 2 ^ 32 }
     ensures within { IfSome result (λ found. found.units ≤ length units.now) }
     ensures found { (name : Pattern) (words : List (List ℕ)) (others : Patterned) → IsScanner S.stood name words others kinds.now spells.now (tables_of by.entry)
-        → (at : ℕ) → Takes (table (rows_of ((Token Ident, name) ∷ others))) at mode (seen_by S.stood units.now) result }
+        → RowsTake (rows_of ((Token Ident, name) ∷ others)) mode (seen_by S.stood units.now) result }
 {
     match plain_name(kinds, units) {
         Some(len) => found_of(Spell::Token(Class::Ident), mode, Some(len)),
@@ -112,7 +112,7 @@ pub fn named_found<S: StandIn>(
 ) -> Option<Found>
     requires { length units.now < 2 ^ 32 }
     ensures { (name : Pattern) (words : List (List ℕ)) (others : Patterned) → IsScanner S.stood name words others kinds.now spells.now (tables_of by.entry)
-        → AreListed reserved.now words → (at : ℕ) → Takes (table (with_reserved S.stood name words others)) at mode (characters units.now) result }
+        → AreListed reserved.now words → RowsTake (with_reserved S.stood name words others) mode (characters units.now) result }
 {
     match row_found::<S>(by, kinds, spells, mode, units) {
         Some(found) => if is_reserved(reserved, found, units) {

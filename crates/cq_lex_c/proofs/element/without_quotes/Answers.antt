@@ -7,5 +7,5 @@ use Rattle.cq_lex_c.specs.declared.identifier.TheConstants.{RESERVED}
 use Rattle.cq_lex_c.proofs.element.without_quotes.Goals as goal
 
 pub returns : goal.returns
-returns c = λ at.
-    c.named_found.ensures identifier keywords no_names is_scanner (λ s. by_letter_among keywords (map (λ row. map (λ w. w.now) row.now) RESERVED) refl refl s) at
+returns c =
+    c.named_found.ensures identifier keywords no_names is_scanner (λ s. by_letter_among keywords (map (λ row. map (λ w. w.now) row.now) RESERVED) refl refl s)

@@ -6,4 +6,4 @@ use Rattle.cq_lex_java.proofs.block.closed_block.Goals as goal
 
 pub returns : goal.returns
 unfolding fits rows_fit row_fits text_block
-returns c = λ at. c.longest_found.ensures.found scanned texts (refl, refl) at
+returns c = c.longest_found.ensures.found scanned texts (refl, refl)

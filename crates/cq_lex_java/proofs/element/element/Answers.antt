@@ -7,5 +7,5 @@ use Rattle.cq_lex_java.specs.declared.words.TheConstants.{RESERVED}
 use Rattle.cq_lex_java.proofs.element.element.Goals as goal
 
 pub returns : goal.returns
-returns c = λ at.
-    c.named_found.ensures identifier keywords others is_scanner (λ s. by_letter_among keywords (map (λ row. map (λ w. w.now) row.now) RESERVED) refl refl s) at
+returns c =
+    c.named_found.ensures identifier keywords others is_scanner (λ s. by_letter_among keywords (map (λ row. map (λ w. w.now) row.now) RESERVED) refl refl s)

@@ -7,5 +7,4 @@ use Rattle.cq_lex_js.specs.declared.words.TheConstants.{RESERVED}
 use Rattle.cq_lex_js.proofs.element.element.Goals as goal
 
 pub returns : goal.returns
-returns c = λ at.
-    c.named_found.ensures name keywords others is_scanner (λ s. by_letter_among keywords (map (λ row. map (λ w. w.now) row.now) RESERVED) refl refl s) at
+returns c = c.named_found.ensures name keywords others is_scanner (λ s. by_letter_among keywords (map (λ row. map (λ w. w.now) row.now) RESERVED) refl refl s)

@@ -6,4 +6,4 @@ use Rattle.cq_lex_js.specs.OneKind.{is_property_scanner}
 use Rattle.cq_lex_js.proofs.element.property.Goals as goal
 
 pub returns : goal.returns
-returns c = λ at. c.named_found.ensures name [] others is_property_scanner (λ s. by_letter_among [] [] refl refl s) at
+returns c = c.named_found.ensures name [] others is_property_scanner (λ s. by_letter_among [] [] refl refl s)

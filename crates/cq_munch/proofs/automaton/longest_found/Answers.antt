@@ -12,17 +12,17 @@ use Rattle.cq_munch.proofs.RowScans.{none_there, one_there, not_past}
 use Rattle.cq_munch.proofs.automaton.longest_found.Goals as goal
 
 pub returns-in-Some-get-clause-found : goal.returns-in-Some-get-clause-found
-returns-in-Some-get-clause-found g c = λ rows texts right at.
-    subst (Takes (table (rows_of rows)) at c.args.mode (seen_by g.S.StandIn.stood c.args.units.now)) (sym c.found_of.ensures)
-    (one_there rows texts (tables_of c.args.by) right.1 c.args.spells.now right.0 at c.args.mode (seen_by g.S.StandIn.stood c.args.units.now) c.in-Some.len c.in-Some.row c.in-Some-get.spell.now c.in-Some.ensures c.in-Some-get.ensures.lookup.1)
+returns-in-Some-get-clause-found g c = λ rows texts right.
+    subst (Takes (table (rows_of rows)) 0 c.args.mode (seen_by g.S.StandIn.stood c.args.units.now)) (sym c.found_of.ensures)
+    (one_there rows texts (tables_of c.args.by) right.1 c.args.spells.now right.0 0 c.args.mode (seen_by g.S.StandIn.stood c.args.units.now) c.in-Some.len c.in-Some.row c.in-Some-get.spell.now c.in-Some.ensures c.in-Some-get.ensures.lookup.1)
 
 pub returns-in-None-get-clause-found : goal.returns-in-None-get-clause-found
-returns-in-None-get-clause-found g c = λ rows texts right at.
-    absurd (not_past rows texts (tables_of c.args.by) right.1 c.args.spells.now right.0 at c.args.mode (seen_by g.S.StandIn.stood c.args.units.now) c.in-Some.len c.in-Some.row c.in-Some.ensures c.in-None-get.ensures.lookup.3)
+returns-in-None-get-clause-found g c = λ rows texts right.
+    absurd (not_past rows texts (tables_of c.args.by) right.1 c.args.spells.now right.0 0 c.args.mode (seen_by g.S.StandIn.stood c.args.units.now) c.in-Some.len c.in-Some.row c.in-Some.ensures c.in-None-get.ensures.lookup.3)
 
 pub returns-in-None-clause-found : goal.returns-in-None-clause-found
-returns-in-None-clause-found g c = λ rows texts right at.
-    none_there rows texts (tables_of c.args.by) right.1 c.args.spells.now right.0 at c.args.mode (seen_by g.S.StandIn.stood c.args.units.now) c.in-None.ensures
+returns-in-None-clause-found g c = λ rows texts right.
+    none_there rows texts (tables_of c.args.by) right.1 c.args.spells.now right.0 0 c.args.mode (seen_by g.S.StandIn.stood c.args.units.now) c.in-None.ensures
 
 pub returns-in-Some-get-clause-within : goal.returns-in-Some-get-clause-within
 returns-in-Some-get-clause-within g c =

@@ -1,15 +1,23 @@
-use Rattle.std.proofs.Common.{Global, ◌≡◌, List, Some, length, map, refl, sym, ap, ◌∙◌, subst, subst₂, arith}
-use Rattle.std.specs.Prelude.{insert}
+use Rattle.std.proofs.Common.{Global, ◌≡◌, List, Some, Result, Ok, Err, length, map, refl, sym, ap, ◌∙◌, subst, subst₂, arith}
+use Rattle.std.specs.Prelude.{insert, OnErr}
 use Rattle.std.specs.Arc.{arc_value}
 use Rattle.std.specs.declared.sync.Arc.{Arc}
+use Rattle.std.proofs.lemmas.List.{length-map}
 use Rattle.cq_history.specs.Files.{File, with_file, number_at}
+use Rattle.cq_order.specs.declared.spots.Spot.{Spot}
 use Rattle.cq_projects.specs.Projects.{path_in}
 use Rattle.cq_projects.specs.Ordered.{AreRising, IsAt, IsGap}
 use Rattle.cq_projects.specs.Spotted.{AreSpotted, AreOlder}
+use Rattle.cq_projects.proofs.Indexes.{at_inside, gap_inside}
 use Rattle.cq_projects.proofs.OwnerLists.{rising_held}
 use Rattle.cq_projects.proofs.Putting.{replaced_at, number_at_index, inserted_at, no_number_at}
 use Rattle.cq_projects.proofs.SpottedFiles.{gap_within, spots_within, spotted_set, spotted_insert}
 use Rattle.cq_projects.proofs.project_files.ProjectFiles.put.Goals as goal
+
+-- what is known, of whatever result
+err_known : {T E P : Type 0} (r : Result T E) → P → OnErr r P
+err_known (Ok x) known = tt
+err_known (Err e) known = known
 
 pub find-requires : goal.find-requires
 find-requires g c = subst (AreRising path_in) (sym c.deref.ensures.value) (rising_held c.self.inside.items.items c.self.invariant.rising)
@@ -65,3 +73,45 @@ pub returns-in_ok-insert-in-Err-clause-number : goal.returns-in_ok-insert-in-Err
 returns-in_ok-insert-in-Err-clause-number g c =
     let gap = subst₂ (λ p (hs : List (Arc (File g.row.W.Denot) Global)). IsGap path_in p hs c.in-Err.i) (c.deref-3.ensures ∙ ap (λ (h : File g.row.W.Denot). h.path) (c.behind-held.view_is ∙ c.deref-2.ensures)) c.deref.ensures.value c.in-Err.ensures.gap in
     no_number_at c.self.inside.items.items (path_in c.args.held) c.in-Err.i gap ∙ ap (λ (fs : List (File g.row.W.Denot)). number_at (path_in c.args.held) fs) c.self.view_is
+
+pub index-requires : goal.index-requires
+index-requires g c = omega (arith, at_inside c.in-Ok.ensures.found, ap length c.deref.ensures.value, c.self.inside.items.ok.0)
+
+pub index_mut-requires : goal.index_mut-requires
+index_mut-requires g c = omega (arith, at_inside c.in-Ok.ensures.found, ap length c.deref.ensures.value, c.self.inside.items.ok.0)
+
+pub overflow_cast-spot : goal.overflow_cast-spot
+overflow_cast-spot g c = omega (arith, at_inside c.in-Ok.ensures.found, ap length c.deref.ensures.value, c.self.invariant.few, length-map c.self.inside.items.items (arc_value {X = File g.row.W.Denot} {Z = Global}))
+
+pub overflow_cast-spot-in-Err : goal.overflow_cast-spot-in-Err
+overflow_cast-spot-in-Err g c = omega (arith, gap_inside c.in-Err.ensures.gap, ap length c.deref.ensures.value, c.self.invariant.few, length-map c.self.inside.items.items (arc_value {X = File g.row.W.Denot} {Z = Global}))
+
+pub replace-requires : goal.replace-requires
+replace-requires g c = record { rising = c.self.invariant.are_spots.rising }
+
+pub insert_within-requires-clause-within : goal.insert_within-requires-clause-within
+insert_within-requires-clause-within g c = omega (arith, gap_inside c.in-Err.ensures.gap, ap length c.deref.ensures.value, c.self.inside.items.ok.0, c.in_ok-reserve-in-Err.ensures.len)
+
+pub insert_within-requires-clause-room : goal.insert_within-requires-clause-room
+insert_within-requires-clause-room g c = omega (arith, c.in_ok-reserve-in-Err.ensures.ok)
+
+pub invariant_of-self-in_err-reserve-in-Err : goal.invariant_of-self-in_err-reserve-in-Err
+invariant_of-self-in_err-reserve-in-Err g c =
+    subst (λ (hs : List (Arc (File g.row.W.Denot) Global)). AreSpotted (map arc_value hs) c.self.inside.spots) (sym c.in_err-reserve-in-Err.ensures.items) c.self.invariant
+
+pub invariant_of-self-in_err-insert-in-Err : goal.invariant_of-self-in_err-insert-in-Err
+invariant_of-self-in_err-insert-in-Err g c =
+    subst₂ (λ (hs : List (Arc (File g.row.W.Denot) Global)) (spots : List Spot). AreSpotted (map arc_value hs) spots) (sym c.in_ok-reserve-in-Err.ensures.items) (sym c.in_err-insert-in-Err.ensures.unchanged) c.self.invariant
+
+pub invariant_of-self : goal.invariant_of-self
+invariant_of-self g c =
+    subst (λ (spots : List Spot). AreSpotted (map arc_value c.self.inside.items.items) spots) (sym c.in_err-replace-in-Ok.ensures.unchanged) c.self.invariant
+
+pub returns-in_err-insert-in-Err-clause-unchanged : goal.returns-in_err-insert-in-Err-clause-unchanged
+returns-in_err-insert-in-Err-clause-unchanged g c = err_known _ (ap (λ (hs : List (Arc (File g.row.W.Denot) Global)). map arc_value hs) c.in_ok-reserve-in-Err.ensures.items ∙ c.self.view_is)
+
+pub returns-in_err-reserve-in-Err-clause-unchanged : goal.returns-in_err-reserve-in-Err-clause-unchanged
+returns-in_err-reserve-in-Err-clause-unchanged g c = err_known _ (ap (λ (hs : List (Arc (File g.row.W.Denot) Global)). map arc_value hs) c.in_err-reserve-in-Err.ensures.items ∙ c.self.view_is)
+
+pub returns-in_err-replace-in-Ok-clause-unchanged : goal.returns-in_err-replace-in-Ok-clause-unchanged
+returns-in_err-replace-in-Ok-clause-unchanged g c = err_known _ (c.self.view_is)

@@ -1,10 +1,12 @@
-use Rattle.std.proofs.Common.{Global, List, Some, map, sym, ap, ◌∙◌, subst}
+use Rattle.std.proofs.Common.{Global, List, Some, length, map, sym, ap, ◌∙◌, subst, arith}
 use Rattle.std.specs.Arc.{arc_value}
 use Rattle.std.specs.declared.sync.Arc.{Arc}
+use Rattle.std.proofs.lemmas.List.{length-map}
 use Rattle.cq_history.specs.Files.{File, without_file, number_at}
 use Rattle.cq_projects.specs.Projects.{path_in}
 use Rattle.cq_projects.specs.Ordered.{AreRising, IsAt, IsGap}
 use Rattle.cq_projects.specs.Spotted.{AreSpotted}
+use Rattle.cq_projects.proofs.Indexes.{at_inside}
 use Rattle.cq_projects.proofs.OwnerLists.{rising_held}
 use Rattle.cq_projects.proofs.Putting.{removed_at, number_at_index, none_at, no_number_at}
 use Rattle.cq_projects.proofs.SpottedFiles.{spotted_remove}
@@ -43,3 +45,12 @@ pub returns-in-Err-clause-number : goal.returns-in-Err-clause-number
 returns-in-Err-clause-number g c =
     no_number_at c.self.inside.items.items c.args.path.now c.in-Err.field-0 (subst (λ (hs : List (Arc (File g.row.W.Denot) Global)). IsGap path_in c.args.path.now hs c.in-Err.field-0) c.deref.ensures.value c.in-Err.ensures.gap)
     ∙ ap (λ (fs : List (File g.row.W.Denot)). number_at c.args.path.now fs) c.self.view_is
+
+pub remove-held-requires : goal.remove-held-requires
+remove-held-requires g c = omega (arith, at_inside c.in-Ok.ensures.found, ap length c.deref.ensures.value, c.self.inside.items.ok.0)
+
+pub overflow_cast-spot : goal.overflow_cast-spot
+overflow_cast-spot g c = omega (arith, at_inside c.in-Ok.ensures.found, ap length c.deref.ensures.value, c.self.invariant.few, length-map c.self.inside.items.items (arc_value {X = File g.row.W.Denot} {Z = Global}))
+
+pub remove-requires : goal.remove-requires
+remove-requires g c = record { rising = c.self.invariant.are_spots.rising }

@@ -1,6 +1,0 @@
-use Rattle.std.proofs.Common.{sym, ◌∙◌}
-use Rattle.cq_lex_go.proofs.Blanks.{blank_at}
-use Rattle.cq_lex_go.proofs.language.GoLexis.longest.Goals as goal
-
-pub returns-then-is_blank-clause-taken : goal.returns-then-is_blank-clause-taken
-returns-then-is_blank-clause-taken c = blank_at c.args.units.now c.args.at c.args.mode c.requires.inside (sym c.is_blank.ensures ∙ c.if-is_blank.true)

@@ -1,0 +1,30 @@
+use Rattle.std.proofs.Common.{sym, ◌∙◌}
+use Rattle.cq_munch.specs.Characters.{characters}
+use Rattle.cq_munch.proofs.Trying.{taken_at_test}
+use Rattle.cq_lex_java.specs.Java.{rows, tests}
+use Rattle.cq_lex_java.proofs.language.JavaTabled.taken.Goals as goal
+
+pub returns-then-opens_comment : goal.returns-then-opens_comment
+returns-then-opens_comment c =
+    taken_at_test (tests (characters c.args.units.now)) rows c.args.mode (characters c.args.units.now) c.block_comment.result 0
+    (sym c.opens_comment.ensures ∙ c.if-opens_comment.true, c.block_comment.ensures)
+
+pub returns-then-opens_comment-2 : goal.returns-then-opens_comment-2
+returns-then-opens_comment-2 c =
+    taken_at_test (tests (characters c.args.units.now)) rows c.args.mode (characters c.args.units.now) c.line_comment.result 1
+    (sym c.opens_comment.ensures ∙ c.if-opens_comment.false, (sym c.opens_comment-2.ensures ∙ c.if-opens_comment-2.true, c.line_comment.ensures))
+
+pub returns-then-opens_block : goal.returns-then-opens_block
+returns-then-opens_block c =
+    taken_at_test (tests (characters c.args.units.now)) rows c.args.mode (characters c.args.units.now) c.closed_block.result 2
+    (sym c.opens_comment.ensures ∙ c.if-opens_comment.false, (sym c.opens_comment-2.ensures ∙ c.if-opens_comment-2.false, (sym c.opens_block.ensures ∙ c.if-opens_block.true, c.closed_block.ensures)))
+
+pub returns-then-is_end : goal.returns-then-is_end
+returns-then-is_end c =
+    taken_at_test (tests (characters c.args.units.now)) rows c.args.mode (characters c.args.units.now) c.sign_at.result 3
+    (sym c.opens_comment.ensures ∙ c.if-opens_comment.false, (sym c.opens_comment-2.ensures ∙ c.if-opens_comment-2.false, (sym c.opens_block.ensures ∙ c.if-opens_block.false, (sym c.is_end.ensures ∙ c.if-is_end.true, c.sign_at.ensures))))
+
+pub returns : goal.returns
+returns c =
+    taken_at_test (tests (characters c.args.units.now)) rows c.args.mode (characters c.args.units.now) c.element.result 4
+    (sym c.opens_comment.ensures ∙ c.if-opens_comment.false, (sym c.opens_comment-2.ensures ∙ c.if-opens_comment-2.false, (sym c.opens_block.ensures ∙ c.if-opens_block.false, (sym c.is_end.ensures ∙ c.if-is_end.false, c.element.ensures))))
