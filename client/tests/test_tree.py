@@ -228,7 +228,7 @@ def test_identical_files_once(client: Client, tmp_path: Path) -> None:
 def test_what_is_too_large_is_told_before_in_one_line() -> None:
     tree = Tree(Path("/"), [""], [Source(f"{folder}/{i}.c", "c", size) for folder, size in (("big", 9), ("mid/x", 5), ("small", 1)) for i in range(10)])
     assert too_large(tree, 150) == ""
-    assert "leave out mid by --exclude '/mid/' (50 bytes)" in too_large(tree, 100)
+    assert "leave out mid with --exclude '/mid/' (50 bytes)" in too_large(tree, 100)
     assert "leave out big" in too_large(tree, 60)
     assert "further servers" in too_large(tree, 40) and "\n" not in too_large(tree, 40)
 

@@ -53,7 +53,7 @@ def base_commit(root: Path, base: str) -> str:
     except git.GitFault as fault:
         if not git.top_of(root):
             raise Fault(f"{root} is in no git work tree, and check compares with a commit") from fault
-        raise Fault(f"--base {base}: git knows no such commit; fetch it first, as by git fetch origin") from fault
+        raise Fault(f"--base {base}: git knows no such commit; fetch it first, for instance with git fetch origin") from fault
     try:
         return git.git(root, "merge-base", base, "HEAD").decode().split()[0]
     except (git.GitFault, IndexError) as fault:

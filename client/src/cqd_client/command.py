@@ -72,7 +72,7 @@ def tree_asked(options: argparse.Namespace, root: Path, own: Sequence[Path], not
         first = "".join(f" ({skipped.path}: {skipped.why})" for skipped in tree.skipped[:1])
         raise Fault(f"there are no source files in {where}{first}: nothing was uploaded or dropped")
     if len(tree.sources) > CHANGE_LIMIT - 2:
-        raise Fault(f"{len(tree.sources):,} source files, and a server holds at most {CHANGE_LIMIT - 2:,}: choose fewer by --include and "
+        raise Fault(f"{len(tree.sources):,} source files, and a server holds at most {CHANGE_LIMIT - 2:,}: choose fewer with --include and "
                     "--exclude")
     large = too_large(tree, TEXT_LIMIT)
     if large:
@@ -214,7 +214,7 @@ def tell_extent(options: argparse.Namespace, tree: Tree, has_changes: bool, note
 
 def check_options(options: argparse.Namespace, metrics: Sequence[str]) -> None:
     if not options.base:
-        raise Misuse("check needs --base: the branch that this work goes back to, as --base origin/main")
+        raise Misuse("check needs --base: what the change is compared with, as --base origin/main")
     for metric in metrics:
         if metric not in JUDGED:
             raise Misuse(f"check judges changed lines, and {metric} is not known of lines; its metrics are {', '.join(JUDGED)}")

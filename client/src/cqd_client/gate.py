@@ -57,7 +57,7 @@ def known_gate(conditions: Sequence[Condition], state: Optional[State], project:
     none must not ask."""
     known = list(conditions) or (list(state.entry.gate) if state else [])
     if not known:
-        raise Fault(f"no gate is known for project {project}: give it by --gate or in .cqd.toml")
+        raise Fault(f"no gate is known for project {project}: give it with --gate or in .cqd.toml")
     return known
 
 

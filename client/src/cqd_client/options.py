@@ -132,7 +132,7 @@ def parsed(whole: Parser, words: Optional[Sequence[str]]) -> argparse.Namespace:
 
 def add_questions(one: argparse.ArgumentParser, command: str) -> None:
     if command == "check":
-        one.add_argument("--base", metavar="REF", type=text, help="the commit or branch that the work goes back to, as origin/main")
+        one.add_argument("--base", metavar="REF", type=text, help="the branch or commit that the change is compared with, as origin/main")
         one.add_argument("--max-complexity", metavar="N", type=number(1, 1_000_000), help="also fail on a changed function above this")
     one.add_argument("--min", metavar="N", type=number(1, 100_000), help="the fewest tokens that a duplicate may have; default 100")
     if command in ("groups", "measures"):

@@ -126,9 +126,9 @@ def too_large(tree: Tree, most: int) -> str:
     fitting = [folder for folder, size in sizes.items() if tree.size - size <= most and size < tree.size]
     if fitting:
         least = min(fitting, key=lambda folder: (sizes[folder], folder))
-        return (f"{whole}: leave out {least} by --exclude '/{least}/' ({sizes[least]:,} bytes), or split the sources into several projects "
+        return (f"{whole}: leave out {least} with --exclude '/{least}/' ({sizes[least]:,} bytes), or split the sources into several projects "
                 "on further servers")
     large = [folder for folder, size in sizes.items() if size < tree.size]
     largest = max(large, key=lambda folder: (sizes[folder], folder), default="")
     named = f" (the largest folder, {largest}, has {sizes[largest]:,})" if largest else ""
-    return f"{whole}{named}: split the sources into several projects on further servers, or choose fewer by --include and --exclude"
+    return f"{whole}{named}: split the sources into several projects on further servers, or choose fewer with --include and --exclude"

@@ -279,7 +279,7 @@ def ignore_of(folder: bytes) -> Any:
     try:
         import pathspec  # pylint: disable=import-outside-toplevel
     except ImportError as error:
-        raise Fault("python3-pathspec is needed to read .gitignore: install it, or read all files by --no-ignore") from error
+        raise Fault("python3-pathspec is needed to read .gitignore: install it, or read all files with --no-ignore") from error
     name = os.path.join(folder, b".gitignore")
     try:
         with open(name, encoding="utf-8", errors="surrogateescape") as file:

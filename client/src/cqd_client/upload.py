@@ -88,7 +88,7 @@ def one_pass(server: Server, project: str, done: Upload, state: Optional[State],
             done.put.add(path)
             done.known[path] = entry[path] = Known(done.hashes[path], member(reply.members, "change", int))
         elif reply.error in ("full-text", "full-changes"):
-            raise Fault(f"{reply.refusal()}: {len(done.known):,} of {len(done.tree.sources):,} files are uploaded. Choose fewer by --exclude, "
+            raise Fault(f"{reply.refusal()}: {len(done.known):,} of {len(done.tree.sources):,} files are uploaded. Choose fewer with --exclude, "
                         "or use a further server")
         else:
             done.skipped.append(Skipped(path, reply.refusal()))

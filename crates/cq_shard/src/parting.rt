@@ -21,7 +21,7 @@ pub fn parted<W: Indexed>(
     requires few { HaveFewKeys W.keys_in works.now }
     ensures { IfOk result (λ parts. AreParts W.keys_in applied shards works.now parts.items) }
 {
-    let mut parts = empty(alloc, shards, share(works, shards))?;
+    let mut parts = empty(alloc, shards)?;
     let mut change = applied;
     for work in works {
         change += 1;
@@ -42,28 +42,13 @@ pub(crate) fn room(keys: usize, shards: u32) -> usize
     even.saturating_add(even / 4 + 8)
 }
 
-// The number of entries for which each shard's list gets room before the first one comes: an even share of the works'
-// keys, and a thirty-second more. If there are many keys, few lists then grow.
-fn share<W: Indexed>(works: &[Option<Arc<W, Global>>], shards: u32) -> usize
-    requires { 0 < shards }
-{
-    let mut keys = 0usize;
-    for work in works {
-        if let Some(work) = work {
-            keys = keys.saturating_add(work.keys().len());
-        }
-    }
-    let even = keys / shards as usize;
-    even.saturating_add(even / 32)
-}
-
-// An empty list for each shard, with room for this many entries.
-fn empty(alloc: Global, shards: u32, capacity: usize) -> Result<Vec<Vec<Entry>>, Memory>
+// This many lists without an entry.
+fn empty(alloc: Global, shards: u32) -> Result<Vec<Vec<Entry>>, Memory>
     ensures { IfOk result (λ parts. map (λ part. part.items) parts.items ≡ replicate shards []) }
 {
     let mut parts = Vec::with_capacity(alloc, shards as usize)?;
     for _shard in 0..shards {
-        parts.push(Vec::with_capacity(alloc, capacity)?)?;
+        parts.push(Vec::new(alloc))?;
     }
     Ok(parts)
 }
