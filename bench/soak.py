@@ -5,7 +5,8 @@ usage: bench/soak.py [--minutes N] [--clients N] [--workers N] [--changes N] [--
 
 Each client, in a process of its own, uploads and drops small files, sets gates and asks every query, in a project of its own and in one
 that all share. In between it sends lines of 8 MiB and of one byte more, bytes that are not UTF-8, 126 to 128 nested brackets, and requests
-that are refused in each way. Its connections end in the middle of a line, with or without replies that nobody reads, in the middle of a
+that are refused in each way. Its first line has 8 MiB, so that the line buffer of each session is as large as it gets before memory is
+compared. Its connections end in the middle of a line, with or without replies that nobody reads, in the middle of a
 line of 8 MiB, or with a last line that lacks its line feed.
 
 Each reply is checked. What needs no other client is checked at once: a refusal fits its line, versions and numbers never fall, and replies
@@ -215,10 +216,19 @@ class Client:
             must(connection.replies.read() == b"", "the end of the input", "more than its replies")
         connection.close()
 
+    def fill(self, connection):
+        """Sends the longest line, so that the line buffer of this session is as large as it gets."""
+        make, wanted = LARGE["at the limit"]
+        connection.send(make())
+        must(connection.receive() == wanted, "the longest line", "another reply")
+        self.log.counted["large"] += 1
+
     def run(self):
         for part in range(self.parts):
             connection = Connection(self.address)
             self.log.begin_session()
+            if part == 0:
+                self.fill(connection)
             while time.monotonic() < self.start + (part + 1) * PART:
                 self.talk(connection)
             self.end(connection, self.drawn.choice(ENDS))

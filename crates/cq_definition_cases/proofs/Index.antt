@@ -1,4 +1,4 @@
--- Wrong answers of a search, of spots, of buckets, of a shard, of what is kept and of a cutter of lines.
+-- Wrong answers of a search, of spots, of buckets, of a shard, of what is kept, of a cutter of lines and of a version.
 use Rattle.std.specs.Prelude.{◌≡◌, ◌⊎◌, ℕ, zero, suc, ◌<◌, ◌≤◌, get_or, true, false, List, [], ◌∷◌, ◌++◌, length, slice_get, Option, None, Some}
 use Rattle.std.proofs.Common.{arith, ap, refl, sym, subst, inl, inr}
 use Rattle.std.proofs.lemmas.List.Elements.{Contains-get_or}
@@ -10,13 +10,18 @@ use Rattle.cq_base.specs.declared.entry.Entry.{Entry}
 use Rattle.cq_base.specs.declared.lang.Lang.{Lang}
 use Rattle.cq_base.specs.declared.lang.Lang.TheVariants.{Any}
 use Rattle.cq_base.specs.declared.settings.Settings.{Settings}
+use Rattle.cq_board.specs.Entries.{IsEntryAt}
+use Rattle.cq_board.specs.Listings.{AreLive, IsLive}
 use Rattle.cq_chain.specs.Held.{state_in}
 use Rattle.cq_chain.specs.Passes.{IsStep}
 use Rattle.cq_chain.specs.declared.about.About.{About}
-use Rattle.cq_clones.specs.Windows.{IsBucket}
+use Rattle.cq_clones.specs.Lists.{AreAllInOrder}
+use Rattle.cq_clones.specs.Windows.{EntryBefore, IsBucket}
 use Rattle.cq_history.specs.Changes.{is_of_file}
+use Rattle.cq_history.specs.Files.{Source, files_at, files_of}
 use Rattle.cq_history.specs.Gone.{AreKeptPuts, IsFollowed, IsGone, IsOver}
 use Rattle.cq_history.specs.Lawful.{is_long}
+use Rattle.cq_history.specs.Standing.{Has}
 use Rattle.cq_history.specs.State.{State, accepted, ready}
 use Rattle.cq_history.specs.declared.event.Event.{Event}
 use Rattle.cq_kept.specs.Accepted.{not_over}
@@ -137,3 +142,34 @@ bytes_that_are_kept_take_room e = is_true e
 
 pub bytes_that_are_forgotten_give_room_back : is_long limited (at_floor 2) (put (98 ∷ 98 ∷ [])) ≡ true → ⊥
 bytes_that_are_forgotten_give_room_back e = is_false e
+
+-- ---- a put of a file, and another put of it
+
+abbrev twice : List Change
+twice = Put [] [] Any [] ∷ Put [] [] Any [] ∷ []
+
+the_first_is_replaced : (project : List ℕ) (file : Source) → Has (files_of project twice) file → file.number ≡ 1 → ⊥
+the_first_is_replaced [] file (inl same) is = let number : 2 ≡ file.number = ap (λ (f : Source). f.number) same in omega (arith, number, is)
+the_first_is_replaced [] file (inr other) is = other
+the_first_is_replaced (_ ∷ _) file there is = there
+
+the_second_is_later : (project : List ℕ) (file : Source) → Has (files_at twice 1 project) file → file.number ≡ 2 → ⊥
+the_second_is_later [] file (inl same) is = let number : 1 ≡ file.number = ap (λ (f : Source). f.number) same in omega (arith, number, is)
+the_second_is_later [] file (inr other) is = other
+the_second_is_later (_ ∷ _) file there is = there
+
+pub a_change_that_is_replaced_is_not_live : AreLive twice (1 ∷ 2 ∷ []) → ⊥
+a_change_that_is_replaced_is_not_live live =
+    let of : IsLive twice 1 = (live.each 1).0 (Contains-get_or (1 ∷ 2 ∷ []) 0 1 (omega arith)) in the_first_is_replaced of.0 of.1 of.2 of.3
+
+pub a_version_has_no_entry_of_a_replaced_change :
+    (IsWindow : Lang → List ℕ → ℕ → ℕ → Type 0) → AreAllInOrder EntryBefore (IsEntryAt IsWindow twice 2 5) (entry 5 0 ∷ []) → ⊥
+a_version_has_no_entry_of_a_replaced_change IsWindow entries =
+    let of : IsEntryAt IsWindow twice 2 5 (entry 5 0) = (entries.each (entry 5 0)).0 (Contains-get_or (entry 5 0 ∷ []) 0 (entry 5 0) (omega arith)) in
+    the_first_is_replaced of.project of.file of.there of.number
+
+pub a_version_has_no_entry_of_a_later_change :
+    (IsWindow : Lang → List ℕ → ℕ → ℕ → Type 0) → AreAllInOrder EntryBefore (IsEntryAt IsWindow twice 1 5) (stale ∷ []) → ⊥
+a_version_has_no_entry_of_a_later_change IsWindow entries =
+    let of : IsEntryAt IsWindow twice 1 5 stale = (entries.each stale).0 (Contains-get_or (stale ∷ []) 0 stale (omega arith)) in
+    the_second_is_later of.project of.file of.there of.number
