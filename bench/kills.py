@@ -19,6 +19,7 @@ The program is ./cqd, or what the variable CQD names.
 import argparse
 import collections
 import fcntl
+import functools
 import json
 import os
 import random
@@ -47,6 +48,16 @@ def free_address():
         return one.getsockname()
 
 
+@functools.cache
+def parsed(line):
+    """What a line says, without its text; None if it is no JSON object."""
+    try:
+        said = json.loads(line)
+    except ValueError:
+        return None
+    return {name: said.get(name) for name in ("op", "project", "path")} if isinstance(said, dict) else None
+
+
 def held(log):
     """The lines of the changes that a log holds, and whether its last line was cut off."""
     lines, torn = log.split(b"\n"), False
@@ -58,12 +69,8 @@ def held(log):
                 stop(f"a line that was cut off is followed by one that is not empty: {line[:200]!r}")
             torn = False
             continue
-        try:
-            whole = isinstance(json.loads(line), dict)
-        except ValueError:
-            whole = False
-        torn = not whole
-        if whole:
+        torn = parsed(line) is None
+        if not torn:
             changes.append(line)
     return changes, torn
 
@@ -72,7 +79,7 @@ def files(changes, project):
     """Which change uploaded the file at each path."""
     found = {}
     for number, line in enumerate(changes, 1):
-        said = json.loads(line)
+        said = parsed(line)
         if said["project"] == project and said["op"] == "put":
             found[said["path"]] = number
         elif said["project"] == project and said["op"] == "drop":
@@ -225,11 +232,7 @@ def cut_off(kept, told, shown, rng):
     last, number = max([0, *told, *(version for _project, version, _found in shown)]), 0
     while number < last:
         end = log.index(b"\n", at) + 1
-        line = log[at : end - 1]
-        try:
-            number += isinstance(json.loads(line), dict)
-        except ValueError:
-            pass
+        number += parsed(log[at : end - 1]) is not None
         at = end
     if at == len(log):
         log += json.dumps({"op": "put", "project": SHARED, "path": "cut", "lang": "any", "text": "x " * rng.randrange(100)}).encode()
@@ -249,6 +252,7 @@ def main():
         for kill in range(options.kills):
             if kill % options.anew == 0:
                 kept.write_bytes(b"")
+                parsed.cache_clear()
                 told, shown = {}, []
             was = len(told)
             counts["sent"] += run_on(kept, options, rng, told, shown, names)
