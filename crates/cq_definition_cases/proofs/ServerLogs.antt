@@ -90,6 +90,9 @@ of_front front None = front
 of_front front (Some other) = other
 
 module _ {S K : Type 0} (from : source.Ghosts S) (onto : sink.Ghosts K) (set : Settings) (read read_now : S) (written written_now : K) where
+  abbrev Whole : List ℕ → List Change → Type 0
+  Whole mended before = ContinuesWhole onto set mended before written written_now
+
   -- what holds of the log that it took
   took :
       (bytes : List ℕ) (front : Front) (Holds : List ℕ → List Change → Type 0) → from.rest read ≡ Some bytes → from.rest read_now ≡ Some [] → held_by set bytes ≡ Some front
@@ -115,7 +118,7 @@ module _ {S K : Type 0} (from : source.Ghosts S) (onto : sink.Ghosts K) (set : S
       → onto.written written ≡ Some [] → onto.written written_now ≡ Some (10 ∷ []) → EndsKept from onto set read read_now written written_now (kept.Served served) → ⊥
   unfolding split
   a_line_that_was_cut_off_is_mended served source_was source_is held was is says =
-      let whole : ContinuesWhole onto set (10 ∷ 10 ∷ []) [] written written_now = took (97 ∷ []) (front_of [] [] true) _ source_was source_is held says in
+      let whole : ContinuesWhole onto set (10 ∷ 10 ∷ []) [] written written_now = took (97 ∷ []) (front_of [] [] true) Whole source_was source_is held says in
       let all = wrote (10 ∷ []) (10 ∷ 10 ∷ []) [] was is whole in
       let two : 1 ≡ 2 + length (flat_map ended all.0) = ap (λ (bs : List ℕ). length bs) all.1 in omega (arith, two)
 
@@ -124,7 +127,7 @@ module _ {S K : Type 0} (from : source.Ghosts S) (onto : sink.Ghosts K) (set : S
       → Logs from onto set read read_now written written_now ended_by.Done → ⊥
   unfolding split
   who_could_not_write_a_line_is_not_done source_was source_is was is says =
-      let whole : ContinuesWhole onto set [] [] written written_now = took [] no_front _ source_was source_is refl says in
+      let whole : ContinuesWhole onto set [] [] written written_now = took [] no_front Whole source_was source_is refl says in
       let all = wrote (97 ∷ []) [] [] was is whole in no_one_byte all.0 (sym all.1)
 
   pub a_limit_is_not_told_as_a_failed_read : from.faults read ≡ 0 → from.faults read_now ≡ 0 → EndsKept from onto set read read_now written written_now kept.ReadFault → ⊥
