@@ -3,20 +3,22 @@
 
 usage: bench/kills.py [--kills N] [--anew N] [--clients N] [--workers N] [--seconds S] [--seed N]
 
-A server takes its log, and continues it: `cqd serve ADDRESS <kept.log >>kept.log`. Each client uploads and drops files, sets gates, and asks
+A server takes its log, and continues it: `cqd serve ADDRESS <kept.log >>kept.log`. Half of the servers write through a pipe that holds 4,096
+bytes and is read slowly, so that a kill often falls between two writes of a line. Each client uploads and drops files, sets gates, and asks
 for files, in a project of its own and in one that all share. After a random time of at most --seconds the server is killed by SIGKILL. Half
 of the time the end of the log is then cut off at a random byte after the last line that a client was told of or shown, or a line is begun
-there, as a write that a crash cut short leaves it. Then the next server takes the same log. After --anew kills the log begins again.
+there, as a crash of the machine may leave it. Then the next server takes the same log. After --anew kills the log begins again.
 
 After each kill, what the log holds is computed by the rules of bench/log.py. Each change that was reported, by any server of this log, must be
 there as it was sent, under its number; each reply to a query must be what the changes up to its version give, and these must be there too.
 The next server must report as many changes as the log holds, and for each project just the files of these. Printed are how many changes were
-reported, and how many logs ended in the middle of a line. It exits with 1 if anything differs.
+reported, and how many logs ended in the middle of a line: by a kill, and after ends were cut off. It exits with 1 if anything differs.
 
 The program is ./cqd, or what the variable CQD names.
 """
 import argparse
 import collections
+import fcntl
 import json
 import os
 import random
@@ -78,12 +80,31 @@ def files(changes, project):
     return found
 
 
+class Pipe(threading.Thread):
+    """Appends to a log what comes through a pipe, up to its end."""
+
+    def __init__(self, log):
+        super().__init__(daemon=True)
+        self.log = log
+        self.out, self.written = os.pipe()
+        fcntl.fcntl(self.written, fcntl.F_SETPIPE_SZ, 4096)
+
+    def run(self):
+        with open(self.out, "rb", buffering=0) as out, open(self.log, "ab", buffering=0) as log:
+            while piece := out.read(500):
+                log.write(piece)
+                time.sleep(0.0003)
+
+
 class Server:
-    def __init__(self, kept, workers):
+    def __init__(self, kept, workers, is_piped):
         self.address = free_address()
         words = [PROGRAM, "serve", "%s:%d" % self.address, "--workers", str(workers), "--sessions", "8", "--chunk", "5"]
-        with open(kept, "rb") as read, open(kept, "ab") as written:
+        self.pipe = Pipe(kept) if is_piped else None
+        with open(kept, "rb") as read, open(self.pipe.written, "wb") if self.pipe else open(kept, "ab") as written:
             self.process = subprocess.Popen(words, stdin=read, stdout=written)
+        if self.pipe:
+            self.pipe.start()
 
     def connect(self, seconds=60.0):
         until = time.monotonic() + seconds
@@ -102,6 +123,8 @@ class Server:
     def kill(self):
         self.process.send_signal(signal.SIGKILL)
         self.process.wait()
+        if self.pipe:
+            self.pipe.join()
 
 
 class Client(threading.Thread):
@@ -161,7 +184,7 @@ def asked(server, request):
 def run_on(kept, options, rng, told, shown, names):
     """One server, from its start to its kill. What was told before must be what it begins with."""
     before, _torn = held(kept.read_bytes())
-    server = Server(kept, options.workers)
+    server = Server(kept, options.workers, rng.random() < 0.5)
     state = asked(server, {"op": "state"})
     if state["accepted"] != len(before):
         stop(f"the log holds {len(before)} changes, and the server reports {state}")
@@ -237,7 +260,7 @@ def main():
             if (kill + 1) % options.anew == 0:
                 counts["shown"] += len(shown)
                 print(f"{kill + 1} kills: {dict(counts)}, a log of {kept.stat().st_size} bytes", flush=True)
-    print(f"{options.kills} kills: of {counts['sent']} requests, {counts['told']} changes were reported, and all were found; {counts['torn']} logs ended in the middle of a line")
+    print(f"{options.kills} kills: of {counts['sent']} requests, {counts['told']} changes were reported, and all were found; {counts['torn by kills']} kills left a log in the middle of a line, and {counts['torn']} cuts did")
 
 
 main()
