@@ -16,7 +16,7 @@ use Rattle.cq_io.specs.declared.sink.Sink as sink
 use Rattle.cq_io.specs.declared.source.Source as source
 use Rattle.cq_keeper.specs.Kept.{IsLogOf}
 use Rattle.cq_keeper.specs.declared.naming.LogOf as log_of
-use Rattle.cq_lines.specs.LineLogs.{BreaksOff, Logged}
+use Rattle.cq_lines.specs.LineLogs.{Logged}
 use Rattle.cq_lines.specs.Pieces.{ended, split}
 use Rattle.cq_lines.specs.declared.ending.End.TheVariants as end
 use Rattle.cq_listen.specs.declared.listening.Served.{Served}
@@ -65,9 +65,6 @@ no_one_byte ([] ∷ lines) same = let feed : 10 ≡ 97 = ap (λ (bs : List ℕ).
 no_one_byte ((b ∷ line) ∷ lines) same =
     let one : 1 + length ((line ++ 10 ∷ []) ++ flat_map ended lines) ≡ 1 = ap (λ (bs : List ℕ). length bs) same in
     omega (arith, one, length-append (line ++ 10 ∷ []) (flat_map ended lines), length-append line (10 ∷ []))
-
-pub no_line_is_whole_after_one_that_failed : {K : Type 0} (onto : sink.Ghosts K) (old new : Logged K) (line : List ℕ) → new.whole ≡ true → BreaksOff onto old new line → ⊥
-no_line_is_whole_after_one_that_failed onto old new line whole is = let no : true ≡ false = sym whole ∙ is.broken in grind (arith, no)
 
 pub a_log_whose_last_line_is_cut_off_is_not_whole :
     {K N : Type 0} (onto : sink.Ghosts K) (of : log_of.Ghosts N) (log : Logged K) (p : BoardPass)
