@@ -1,5 +1,5 @@
 -- What may not come of a server's log: of taking it, of what is written to it, and of shortening it.
-use Rattle.std.specs.Prelude.{◌≡◌, ℕ, ◌+◌, Bool, true, false, if◌then◌else◌, List, [], ◌∷◌, ◌++◌, length, slice_index, flat_map, Option, None, Some, Ok, codes}
+use Rattle.std.specs.Prelude.{◌≡◌, ℕ, Bool, true, false, if◌then◌else◌, List, [], ◌∷◌, ◌++◌, length, slice_index, flat_map, Option, None, Some, Ok, codes}
 use Rattle.std.specs.Io.KnownBytes.{Appends, Consumes}
 use Rattle.std.specs.List.{AllByRecursion}
 use Rattle.std.proofs.Common.{arith, ap, refl, sym, ◌∙◌, subst, append-nil, length-append}
@@ -63,8 +63,7 @@ no_one_byte : (lines : List (List ℕ)) → flat_map ended lines ≡ 97 ∷ [] �
 no_one_byte [] same = omega (arith, ap (λ (bs : List ℕ). length bs) same)
 no_one_byte ([] ∷ lines) same = let feed : 10 ≡ 97 = ap (λ (bs : List ℕ). slice_index bs 0) same in omega (arith, feed)
 no_one_byte ((b ∷ line) ∷ lines) same =
-    let one : 1 + length ((line ++ 10 ∷ []) ++ flat_map ended lines) ≡ 1 = ap (λ (bs : List ℕ). length bs) same in
-    omega (arith, one, length-append (line ++ 10 ∷ []) (flat_map ended lines), length-append line (10 ∷ []))
+    omega (arith, ap (λ (bs : List ℕ). length bs) same, length-append (line ++ 10 ∷ []) (flat_map ended lines), length-append line (10 ∷ []))
 
 pub a_log_whose_last_line_is_cut_off_is_not_whole :
     {K N : Type 0} (onto : sink.Ghosts K) (of : log_of.Ghosts N) (log : Logged K) (p : BoardPass)
@@ -82,7 +81,7 @@ only_the_first_caller_accepts hub p change only seen is =
 
 -- ---- a server, over a source that had these bytes
 
-of_front : Front → Option Front → Front
+abbrev of_front : Front → Option Front → Front
 of_front front None = front
 of_front front (Some other) = other
 
@@ -116,8 +115,7 @@ module _ {S K : Type 0} (from : source.Ghosts S) (onto : sink.Ghosts K) (set : S
   unfolding split
   a_line_that_was_cut_off_is_mended served source_was source_is held was is says =
       let whole : ContinuesWhole onto set (10 ∷ 10 ∷ []) [] written written_now = took (97 ∷ []) (front_of [] [] true) Whole source_was source_is held says in
-      let all = wrote (10 ∷ []) (10 ∷ 10 ∷ []) [] was is whole in
-      let two : 1 ≡ 2 + length (flat_map ended all.0) = ap (λ (bs : List ℕ). length bs) all.1 in omega (arith, two)
+      let all = wrote (10 ∷ []) (10 ∷ 10 ∷ []) [] was is whole in omega (arith, ap (λ (bs : List ℕ). length bs) all.1)
 
   pub who_could_not_write_a_line_is_not_done :
       from.rest read ≡ Some [] → from.rest read_now ≡ Some [] → onto.written written ≡ Some [] → onto.written written_now ≡ Some (97 ∷ [])
