@@ -74,7 +74,7 @@ the_limit_is_not_the_end written serves =
 -- ---- a log of lines, whose sink failed
 
 pub no_line_is_kept_after_a_failure : {K : Type 0} (onto : sink.Ghosts K) (old : Logged K) (after : K) (line : List ℕ) → BreaksOff onto old (log_at after true) line → ⊥
-no_line_is_kept_after_a_failure onto old after line breaks = is_true breaks.broken
+no_line_is_kept_after_a_failure onto old after _ breaks = is_true breaks.broken
 
 pub nothing_is_written_after_a_failure : {K : Type 0} (onto : sink.Ghosts K) (before : K) (new : Logged K) (line : List ℕ) → BreaksOff onto (log_at before false) new line → new.sink ≡ before
-nothing_is_written_after_a_failure onto before new line breaks = breaks.later refl
+nothing_is_written_after_a_failure onto before new _ breaks = breaks.later refl

@@ -1,5 +1,5 @@
 -- What the top call does, by its status.
-use Rattle.std.specs.Prelude.{◌≡◌, ◌≢◌, ◌==◌, ℕ, ◌+◌, Bool, true, false, MatchBool, List, [], map, Option, Some, None, Result}
+use Rattle.std.specs.Prelude.{◌≡◌, ◌≢◌, ◌⊎◌, ◌==◌, ℕ, ◌+◌, Bool, true, false, MatchBool, List, [], map, Option, Some, None, Result}
 use Rattle.cq_base.specs.declared.settings.Settings.{Settings}
 use Rattle.cq_beside.specs.Replies.{AreWithWorkers}
 use Rattle.cq_drive.specs.Script.{IsScript}
