@@ -1,8 +1,9 @@
--- What a session may not come to: an answer for which no shard was asked, a change that is told and not accepted, a second line of a stranger,
--- and an end without its cause.
+-- What a session may not come to: an answer for which no shard was asked, a change that is told and not accepted or accepted twice, a second
+-- line of a stranger, and an end without its cause.
 use Rattle.std.specs.Prelude.{◌≡◌, ℕ, Bool, true, false, List, [], ◌∷◌, ◌++◌, length, Some, Ok, Err}
 use Rattle.std.proofs.Common.{arith, ap, refl, sym, ◌∙◌, subst, inl, inr, length-append}
 use Rattle.cq_definition_cases.proofs.Different.{is_false, is_true}
+use Rattle.cq_definition_cases.proofs.Talks.{own_grown}
 use Rattle.cq_base.specs.declared.change.Change.{Change}
 use Rattle.cq_base.specs.declared.settings.Settings.{Settings}
 use Rattle.cq_base.specs.declared.refusal.Refusal.TheVariants as refusal
@@ -12,7 +13,9 @@ use Rattle.cq_board.specs.declared.answers.Refused.{Refused}
 use Rattle.cq_board.specs.declared.answers.Refused.TheVariants as refused
 use Rattle.cq_history.specs.declared.event.Event.{Event}
 use Rattle.cq_history.specs.declared.event.Event.TheVariants as event
-use Rattle.cq_history.specs.State.{accepted}
+use Rattle.cq_history.specs.State.{accepted, own}
+use Rattle.cq_history.proofs.Prefixes.{own-append}
+use Rattle.cq_hub.specs.Hubs.{Never}
 use Rattle.cq_io.specs.Causes.{HasCause, Rose}
 use Rattle.cq_lines.specs.Serving.{HasEndCause}
 use Rattle.cq_lines.specs.declared.ending.End.TheVariants as end
@@ -59,6 +62,16 @@ pub a_change_that_is_told_is_accepted :
 a_change_that_is_told_is_accepted set callers alone c by number change (inl accepts) =
     let one : 0 ≡ length (accepts.mid ++ event.Accept by change ∷ []) = ap (λ (es : List Event). length es) accepts.accepts in omega (arith, one, length-append accepts.mid (event.Accept by change ∷ []))
 a_change_that_is_told_is_accepted set callers alone c by number change (inr refuses) = is_true (ap is_number refuses.reply_is ∙ no_cause_is_number refuses.cause)
+
+pub a_change_is_accepted_once :
+    (set : Settings) (callers : ℕ) (alone : Type 0) (number : ℕ) (change : Change)
+    → IsChangedBy set callers alone 0 0 [] change (reply.Change number) (event.Accept 0 change ∷ event.Accept 0 change ∷ []) → ⊥
+a_change_is_accepted_once set callers alone number change (inl accepts) =
+    let one : 2 ≡ 1 =
+    ap (λ (es : List Event). length (own 0 es)) accepts.accepts
+    ∙ (ap (λ (es : List Event). length es) (own-append 0 accepts.mid (event.Accept 0 change ∷ []))
+    ∙ ap (λ (es : List Event). length (es ++ event.Accept 0 change ∷ [])) (own_grown alone Never [] accepts.mid [] accepts.waits)) in omega (arith, one)
+a_change_is_accepted_once set callers alone number change (inr refuses) = is_true (ap is_number refuses.reply_is ∙ no_cause_is_number refuses.cause)
 
 -- ---- a session with a log, whose first line is no JSON object
 
