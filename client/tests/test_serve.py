@@ -13,6 +13,7 @@ FIRST = b'{"op":"put","project":"p","path":"t","lang":"any","text":"a b"}\n'
 SECOND = b'{"op":"put","project":"p","path":"u","lang":"any","text":"c d"}\n'
 STATE = b'{"op":"state"}\n'
 NO_JSON = b'{"code":1,"error":"json","ok":false}\n'
+LONG = b'{"code":13,"error":"long","ok":false}\n'
 
 
 def told(number: int) -> bytes:
@@ -44,8 +45,14 @@ def test_the_end_of_a_log_is_mended(serving: Serving, end: bytes, mended: bytes,
     assert serving.log.read_bytes() == FIRST + end + mended + FIRST
 
 
-def test_a_browser_is_turned_away(serving: Serving) -> None:
-    assert serving.replies(b"POST / HTTP/1.1\r\nHost: localhost\r\n\r\n" + FIRST) == [NO_JSON]
+@pytest.mark.parametrize(("line", "reply"), [
+    (b"POST / HTTP/1.1\r\nHost: localhost\r\n\r\n", NO_JSON),
+    (b"\n", NO_JSON),
+    (b"[]\n", NO_JSON),
+    (b"{" * (8 * 2**20 + 1) + b"\n", LONG),
+], ids=["http", "empty", "list", "long"])
+def test_a_browser_is_turned_away(serving: Serving, line: bytes, reply: bytes) -> None:
+    assert serving.replies(line + FIRST) == [reply]
     assert serving.log.read_bytes() == b""
 
 
