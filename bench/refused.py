@@ -6,8 +6,8 @@ usage: bench/refused.py [--only NAME] [--every N] [--short] [--and-after]
 In each run one allocation is refused, by its number from 1 on, until the number is past the last; with --and-after, all from that one on
 are. --short refuses every 25th, which takes a few minutes.
 
-A run exits with 4 and has written nothing, or with 0. `export` has then written the same file as with enough memory. The other commands
-have gone on: each of their lines is answered as with enough memory, or refused as out of memory, and a run with enough memory and without
+A run exits with 4 and has written nothing, or with 0. `export` and `shorten` have then written the same bytes as with enough memory. The
+other commands have gone on: each of their lines is answered as with enough memory, or refused as out of memory, and a run with enough memory and without
 the refused lines gives all the other replies. So a refused line changed nothing. A refused query may have finished analyses and published a
 version, which `state` shows: of `state` only `accepted` is compared, and that neither of the other numbers is lower. `listen` may exit
 with 5, without letting anyone in, if the memory of its sockets was refused.
@@ -86,7 +86,7 @@ class Ended(NamedTuple):
     status: int
     lines: list[dict]
     allocations: int
-    file: bytes = b""  # what `export` wrote, which is no lines
+    file: bytes = b""  # what `export` or `shorten` wrote, which is no replies
 
 
 class Broken(Exception):
@@ -115,7 +115,7 @@ LINES = [
     put("j", SCRIPT, "js"), put("k", TYPED, "ts"), put("t", "q r s q r s"),
     line(op="measures", project="p", min=2, path="t"), line(op="groups", project="p", min=2), line(op="state"),
 ]
-# What `export` reads: each line is a change that is accepted.
+# What `export` and `shorten` read: each line is a change that is accepted.
 CHANGES = [
     put("t", "a b c x a b c y"), put("A.java", JAVA, "java"), put("c", "int main(void) { return 0; }", "c"),
     put("g", "package main\nfunc f() { for {} }\n", "go"), put("other", "a b", project="q"), put("u", "a b c x"),
@@ -134,6 +134,8 @@ ASKED = [
     line(op="verdict", project="p", min=2), line(op="groups", project="p", min=2, path="t"), line(op="files", project="q"),
     line(op="files", project="p", at=3), line(op="state"), b'{"op":\n',
 ]
+# These commands write only once they need no more memory.
+WRITES_WHOLE = ("export", "shorten")
 STEPS = (ROOT / "examples" / "versions.jsonl").read_bytes().splitlines(keepends=True)
 
 
@@ -170,7 +172,7 @@ class Refusing:
     def run(self, words, given, first=0, last=0):
         process, count = self.start(words, first, last)
         out, _ = process.communicate(b"".join(given), timeout=SECONDS)
-        if words[0] == "export":
+        if words[0] in WRITES_WHOLE:
             return ended(process, b"", count)._replace(file=out)
         return ended(process, out, count)
 
@@ -238,6 +240,7 @@ CASES = {
     "make": Case(["make", "7", "3"], []),
     "ask": Case(["ask", "--chunk", "2"], ASKED, front=FILE),
     "export": Case(["export", "p", "--chunk", "2"], CHANGES),
+    "shorten": Case(["shorten", "--chunk", "2"], CHANGES),
     "listen": Case(["listen", *SETTINGS, "--workers", "0", "--sessions", "1", "--connections", "1"], LINES, over_sockets=True),
     "listen with workers": Case(["listen", *SETTINGS, "--workers", "2", "--sessions", "2", "--connections", "1"], LINES,
                                 over_sockets=True, has_workers=True),
@@ -263,7 +266,7 @@ def check(run, case, wanted, told):
         raise Broken(f"it exited with {told.status} after {len(told.lines)} lines and {len(told.file)} bytes of a file")
     if told.file != wanted.file:
         raise Broken(f"it wrote a file of {len(told.file)} bytes, and not that of {len(wanted.file)}")
-    if case.words[0] == "export":
+    if case.words[0] in WRITES_WHOLE:
         return "the whole file"
     if len(told.lines) != len(wanted.lines):
         raise Broken(f"it wrote {len(told.lines)} lines, and not {len(wanted.lines)}")

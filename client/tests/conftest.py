@@ -122,8 +122,11 @@ class Listening:
         self.process: subprocess.Popen[bytes] | None = None
         self.start()
 
+    def launched(self) -> subprocess.Popen[bytes]:
+        return subprocess.Popen([self.program, "listen", self.addr, *self.words])
+
     def start(self) -> None:
-        self.process = subprocess.Popen([self.program, "listen", self.addr, *self.words])
+        self.process = self.launched()
         limit = time.monotonic() + HANG_SECONDS
         while time.monotonic() < limit and self.process.poll() is None:
             with socket.socket() as tried:
@@ -141,5 +144,32 @@ class Listening:
 @pytest.fixture
 def listening(program: str) -> Iterator[Listening]:
     server = Listening(program)
+    yield server
+    server.kill()
+
+
+class Serving(Listening):
+    """The same for a server that keeps a log."""
+
+    def __init__(self, program: str, log: Path, *words: str) -> None:
+        self.log, self.onto = log, log
+        log.touch()
+        super().__init__(program, *words)
+
+    def launched(self) -> subprocess.Popen[bytes]:
+        with self.log.open("rb") as read, self.onto.open("ab") as written:
+            return subprocess.Popen([self.program, "serve", self.addr, *self.words], stdin=read, stdout=written)
+
+    def replies(self, sent: bytes) -> list[bytes]:
+        """What a connection that sends these bytes gets, up to its end."""
+        with socket.create_connection(("127.0.0.1", self.port), HANG_SECONDS) as one:
+            one.sendall(sent)
+            one.shutdown(socket.SHUT_WR)
+            return one.makefile("rb").readlines()
+
+
+@pytest.fixture
+def serving(tmp_path: Path, program: str) -> Iterator[Serving]:
+    server = Serving(program, tmp_path / "kept.log")
     yield server
     server.kill()

@@ -12,7 +12,7 @@ use cq_base::Settings;
 use cq_chain::Pass;
 use cq_io::Gate;
 use cq_serve::{Bell, work};
-use cq_session::Server;
+use cq_session::{NoLog, Server};
 use cq_shared::Shared;
 use cq_work::{Keyer, Work};
 use std::alloc::Global;
@@ -79,6 +79,7 @@ fn labour<Q: Wait, L: Ledger, R: Wait, G: Gate>(
         alloc: floor.alloc,
         keyer: &keyer,
         hub: floor.hub,
+        keeper: &NoLog,
         gate: floor.gate,
     };
     work(&server, pass, floor.bell)

@@ -11,7 +11,7 @@ use cq_chain::Pass;
 use cq_io::{Gate, Sink, Source};
 use cq_lines::{End, Lines};
 use cq_serve::{Bell, RingingGate};
-use cq_session::{Server, session};
+use cq_session::{NoLog, Server, session};
 use cq_shared::Shared;
 use cq_work::{Keyer, Work};
 use std::alloc::Global;
@@ -80,6 +80,7 @@ impl<'a, L: Ledger, R: Wait, S: Source, K: Sink, G: Gate> Talker<L, R> for Servi
             alloc,
             keyer,
             hub,
+            keeper: &NoLog,
             gate,
         };
         let end = session(&server, pass, lines, source, sink, steps);
@@ -119,7 +120,7 @@ pub fn serve_one<
     K: Sink,
     G: Gate + Sync,
 >(
-    server: &Server<'_, Q, Shared<Work<L>, R>, G>,
+    server: &Server<'_, Q, Shared<Work<L>, R>, NoLog, G>,
     crew: Crew<L>,
     lines: &mut Lines,
     source: &mut S,

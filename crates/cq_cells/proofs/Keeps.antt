@@ -18,7 +18,7 @@ use Rattle.cq_cells.specs.declared.view.Hand.TheVariants.{Free, Has}
 use Rattle.cq_cells.specs.Callers.{Among, Differ, is_by, own, longer, MayCall}
 use Rattle.cq_cells.specs.Counts.{least_of, more_known, Reached}
 use Rattle.cq_cells.specs.Rule.{MayNote, HasCell, Claims, HandOk, Knows, Kept}
-use Rattle.cq_cells.specs.Steps.{first_view, spent, less, child, beside_of, took, taken, noted, noted_of, released, together, compared, AllFit, Fitting}
+use Rattle.cq_cells.specs.Steps.{first_view, spent, less, child, witness, beside_of, took, taken, noted, noted_of, released, together, compared, AllFit, Fitting}
 use Rattle.cq_cells.proofs.Fronts.{prefix_self, prefix_trans, prefix_whole, longer_case, longer_whole, one_begins, left_longer, right_longer}
 use Rattle.cq_cells.proofs.Owns.{each_map, each_append, among_left, among_right, differ_append, own_more, own_less, own_between, own_none, reached_least}
 
@@ -569,6 +569,48 @@ module _ {I E K : Type 0} (lawful_by : K → List E → Type 0) (fits_by : K →
               room = ((λ pos. absurd (omega arith)), λ _. refl);
             })
             (at_snoc (set s.views id w) new u j e);
+      }
+
+  -- a seat of no caller moves no number
+  pub splits_witness : (id : ℕ) (v : V) → v.hand ≡ Free → Splits Rule id v v (witness v)
+  splits_witness id v idle s r at =
+      let mine = r.each_seat id v at in
+      let new : V = witness v in
+      let vs : List V = set s.views id v in
+      let K : ℕ → V → Type 0 = Known r.log s.words r.owner r.whose r.made in
+      record {
+        log = r.log;
+        owner = r.owner;
+        whose = r.whose;
+        made = r.made;
+        wide = r.wide;
+        law = r.law;
+        longest = let t = still_longest r.log s.views id v v at (λ h. h) r.longest in (t.0, t.1, at_longer vs (new ∷ []) t.0 t.1 t.2, t.3);
+        free = r.free;
+        held = λ k l e. let t = r.held k l e in (
+          t.0,
+          dite (ℕ_discrete (r.owner k) id)
+              (λ same. let is : t.1.0 ≡ v = some-injective t.1.0 v (sym t.1.1 ∙ (ap (λ (o : ℕ). get_elem? s.views o) same ∙ at)) in
+              absurd (subst (HasCell k) idle (subst (λ (z : V). HasCell k z.hand) is t.1.2)))
+              (λ ne. (t.1.0, at_longer vs (new ∷ []) (r.owner k) t.1.0 (set_else s.views id (r.owner k) v ne ∙ t.1.1), t.1.2)),
+        );
+        present = λ c l. let t = present_stays r.whose s.views id c v v at (λ h. h) (r.present c l) in (t.0, at_longer vs (new ∷ []) (r.whose c) t.0 t.1, t.2);
+        fresh = r.fresh;
+        few = r.few;
+        each_seat = λ j u e. ⊎_elim
+            (λ (old : get_elem? vs j ≡ some u). seats_stay K s.views id v mine (λ i d _. r.each_seat i d) j u old)
+            (λ (t : (j ≡ length vs) × (new ≡ u)). subst (λ (z : ℕ × V). K z.0 z.1) (λ i. (sym t.0 i, t.1 i)) record {
+              about = mine.about;
+              seen = mine.seen;
+              beside = (r.log, refl);
+              hand = tt;
+              callers = tt;
+              joined = tt;
+              apart = tt;
+              known = mine.known;
+              room = ((λ pos. absurd (omega arith)), λ _. refl);
+            })
+            (at_snoc vs new u j e);
       }
 
   pub joins_pass : (id : ℕ) (v : V) (other : ℕ) (u : V) → v.hand ≡ Free → v.beside ≡ [] → v.joined ≡ [] → u.beside ≡ [] → u.joined ≡ [] → u.hand ≡ Free → Joins Rule id v other u (beside_of v u) spent

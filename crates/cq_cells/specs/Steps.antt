@@ -39,6 +39,10 @@ module _ {I E K : Type 0} where
   abbrev pub child : View I E K → View I E K
   child v = record { about = v.about; callers = v.next ∷ []; seen = v.seen; hand = Free; known = v.known; next = 0; room = 0; beside = []; joined = [] }
 
+  -- of a seat of no caller, which has seen what this one has
+  abbrev pub witness : View I E K → View I E K
+  witness v = record { about = v.about; callers = []; seen = v.seen; hand = Free; known = v.known; next = 0; room = 0; beside = []; joined = [] }
+
   -- a seat that is joined lies beside this one until the two are compared
   abbrev pub beside_of : View I E K → View I E K → View I E K
   beside_of v w = record v { known = v.known ++ w.known; beside = w.seen; joined = w.callers }

@@ -154,6 +154,23 @@ impl<B, S, E, K, L: Law<B, S, E, K>, R> Cells<B, S, E, K, L, R> {
         self.locked.join(&mut pass.seat, seat);
     }
 
+    /// The pass has then seen what another one has, too, which stays as it is. One of the two had seen all that the other
+    /// had.
+    pub fn level(&self, pass: &mut Pass<B, S, E, K>, other: &mut Pass<B, S, E, K>)
+        requires of { IsPassOf self.now pass.old × IsPassOf self.now other.old }
+        requires free { IsFree pass.old × IsFree other.old }
+        ensures of { IsPassOf self.now pass.new × IsSameCaller pass.old pass.new }
+        ensures other { other.new ≡ other.old }
+        ensures free { IsFree pass.new }
+        ensures seen { pass.new.seen ≡ longer pass.old.seen other.old.seen }
+        ensures one_history { AreOneHistory pass.old.seen other.old.seen }
+        ensures own { IsOwn L.caller pass.old pass.new.seen }
+        ensures unmade { 0 < pass.new.next → NoneFrom L.caller pass.new.next pass.new.seen }
+        ensures least { (s : ℕ) → least pass.new s ≡ max (least pass.old s) (least other.old s) }
+    {
+        self.locked.level(&mut pass.seat, &mut other.seat);
+    }
+
     /// Cells of a board and its shards as they are before any event, and the pass of the first caller.
     pub fn new(
         rt: R,

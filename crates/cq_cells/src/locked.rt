@@ -6,7 +6,7 @@ ghost use Rattle.cq_cells.specs.Counts.{least_of, more_known};
 ghost use Rattle.cq_cells.specs.Steps.{IsIdle, HasEmpty, HasOwn, IsSameSeat, KeepsCaller, KeepsSeen, KeepsAndAdds, SeesNoted, AreOneHistory, IsOf, Finds, MayNoteHere, FitsBack, first_view, view, less, child, AllFit};
 
 use crate::law::{CellLaw, Noting};
-use crate::rule::{Beside, CellRule, Compare, NewCaller, Note, Release, Take};
+use crate::rule::{Beside, CellRule, Compare, NewCaller, Note, Release, Take, Witness};
 use crate::view::View;
 use atomic_table::{Refused, Seat, Table};
 use std::alloc::{AllocError, Global};
@@ -163,6 +163,26 @@ impl<I, E, K, L: CellLaw<I, E, K>, R> Locked<I, E, K, L, R> {
     {
         self.table.shared.join_seat::<Beside>(pass, other);
         self.table.shared.load::<Compare<L>>(pass, 0);
+    }
+
+    /// The pass has then seen what another one has, too, which stays as it is. What one had seen begins with what the other had.
+    pub fn level(&self, pass: &mut Seated<I, E, K>, other: &mut Seated<I, E, K>)
+        requires own { IsOf self.now.table.shared.table_id self.now.table.shared.key pass.old }
+        requires other { IsOf self.now.table.shared.table_id self.now.table.shared.key other.old }
+        requires free { IsIdle pass.old × IsIdle other.old }
+        ensures own { IsSameSeat pass.old pass.new × IsIdle pass.new
+            × KeepsCaller (view pass.old) (view pass.new) }
+        ensures other { IsSameSeat other.old other.new × IsIdle other.new
+            × (view other.new ≡ view other.old) }
+        ensures seen { (view pass.new).seen ≡ longer (view pass.old).seen (view other.old).seen }
+        ensures one_history { AreOneHistory (view pass.old).seen (view other.old).seen }
+        ensures mine { HasOwn L.caller (view pass.old) (view pass.new).seen }
+        ensures fresh { 0 < (view pass.new).next
+            → NoneFrom L.caller (view pass.new).next (view pass.new).seen }
+        ensures known { (view pass.new).known ≡ (view pass.old).known ++ (view other.old).known }
+    {
+        let seen = self.table.shared.split_seat::<Witness>(other);
+        self.join(pass, seen);
     }
 
     /// Cells with these values, each free, and the pass of the first caller.

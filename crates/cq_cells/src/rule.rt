@@ -1,6 +1,6 @@
 // The rule of the table, and what each step on a word shows.
 ghost use Rattle.cq_cells.specs.Rule.{Kept};
-ghost use Rattle.cq_cells.specs.Steps.{taken, noted, released, compared, first_view, spent, less, child, beside_of};
+ghost use Rattle.cq_cells.specs.Steps.{taken, noted, released, compared, first_view, spent, less, child, witness, beside_of};
 
 use crate::law::{CellLaw, Noting};
 use crate::view::View;
@@ -59,6 +59,15 @@ impl<I, E, K> Split<View<I, E, K>> for NewCaller {
     ghost left = { less };
 
     ghost right = { child };
+}
+
+// A seat of no caller is split off, which has seen as much.
+pub struct Witness;
+
+impl<I, E, K> Split<View<I, E, K>> for Witness {
+    ghost left = { λ v. v };
+
+    ghost right = { witness };
 }
 
 // A pass is joined into another.

@@ -1,6 +1,7 @@
 -- Passes over a board and its shards.
 use Rattle.std.proofs.Common.{◌≡◌, ◌≢◌, ℕ, suc, ◌+◌, ◌<◌, ◌≤◌, ◌^◌, ◌%◌, cond, List, [], ◌∷◌, ◌++◌, length, get_or, Option, Some, None, refl, sym, ap, ◌∙◌, subst, subst₂, inl, inr, ⊎_elim, arith, append-nil, ne_eqb}
 use Rattle.std.specs.Prelude.{All, IfSome, option_to_list, slice_index}
+use Rattle.std.specs.List.{AllByRecursion}
 use Rattle.std.proofs.lemmas.Bool.{cases_lt}
 use Rattle.std.proofs.lemmas.List.Elements.{All-nil}
 use Rattle.std.proofs.lemmas.List.Sums.{prefix_len-le-length}
@@ -34,7 +35,7 @@ use Rattle.cq_cells.specs.Passes as passes
 use Rattle.cq_cells.specs.Passes.{IsFree, IsSameCaller, HasBoard, HasShard, HasReached, by_of}
 use Rattle.cq_cells.proofs.Fronts.{longer_case}
 use Rattle.cq_chain.specs.declared.about.About.{About}
-use Rattle.cq_chain.specs.Held.{IsLawful, IsBoard, IsShardOf, IsShardAt, state_in, asks}
+use Rattle.cq_chain.specs.Held.{IsOfFirst, AcceptedByFirst, IsLawful, IsBoard, IsShardOf, IsShardAt, state_in, asks}
 use Rattle.cq_chain.specs.Passes.{BoardCells, BoardPass, IsPassOf, IsOwn, HasNoneFrom, MayAdd, IsFound, IsStep, MayLeave, AreFresh}
 
 -- ---- own events
@@ -149,10 +150,23 @@ longer_lawful about seen more one two = longer_case seen more (IsLawful about) (
 
 -- ---- the board
 
-pub board_lawful : (about : About) (log : List Event) (b : BoardState) → IsBoard about log b → IsLawful about log
-board_lawful about log b is = record {
+all_of_both : (xs ys : List Event) → AllByRecursion IsOfFirst xs → AllByRecursion IsOfFirst ys → AllByRecursion IsOfFirst (xs ++ ys)
+all_of_both [] ys one two = two
+all_of_both (x ∷ xs) ys one two = (one.0, all_of_both xs ys one.1 two)
+
+accepted_event : (cells : BoardCells) (p : BoardPass) (event : Option Event) → IfSome event (MayAdd cells p) → AcceptedByFirst cells.about (option_to_list event)
+accepted_event cells p None may only = tt
+accepted_event cells p (Some e) may only = may.accepts only
+
+-- an acceptance that is added is by a caller who may
+pub accepted_more : (cells : BoardCells) (p : BoardPass) (event : Option Event) → IsLawful cells.about p.seen → IfSome event (MayAdd cells p) → AcceptedByFirst cells.about (p.seen ++ option_to_list event)
+accepted_more cells p event law may only = all_of_both p.seen (option_to_list event) (law.accepts only) (accepted_event cells p event may only)
+
+pub board_lawful : (about : About) (log : List Event) (b : BoardState) → IsBoard about log b → AcceptedByFirst about log → IsLawful about log
+board_lawful about log b is accepts = record {
   lawful = subst (λ (z : Settings × ℕ). Lawful z.0 z.1 log) (λ i. (is.settings i, is.callers i)) is.stands.lawful;
   sound = subst (All IsSoundChange) (ap changes_in is.stands.is ∙ changes_in-state (length b.state.views) log) is.stands.sound;
+  accepts = accepts;
 }
 
 may_call : (p : BoardPass) (by : Option ℕ) → 0 < length p.callers → IfSome by (λ c. c ≡ by_of p) → MayCall by p.callers
@@ -166,7 +180,7 @@ may_add here cells p None b is many mine right may = tt
 may_add here cells p (Some e) b is many mine right may =
     subst (λ (z : BoardCells). passes.MayAdd (IsLawful z.about) asks maker z p e) (sym is)
     (record {
-      law = board_lawful cells.about (p.seen ++ e ∷ []) b right;
+      law = board_lawful cells.about (p.seen ++ e ∷ []) b right (accepted_more cells p (Some e) mine.law may);
       maker = may_call p (maker e) mine.of.has_caller may.maker;
       applied = λ s near. may.applied s (subst (λ (n : ℕ). s < n) (subst (λ (z : BoardCells). z.shards ≡ z.about.settings.shards) is many) near);
     })
@@ -251,7 +265,7 @@ module _ {W : Type 0} (keys_in : W → List ℕ) (IsWorkOf : Settings → Lang �
 -- ---- before any event
 
 pub none_lawful : (about : About) → IsLawful about []
-none_lawful about = record { lawful = tt; sound = All-nil IsSoundChange }
+none_lawful about = record { lawful = tt; sound = All-nil IsSoundChange; accepts = λ only. tt }
 
 pub first_board : (about : About) (b : BoardState) → about.settings ≡ b.settings → about.callers ≡ length b.state.views → board.StandsFor [] b → IsBoard about [] b
 first_board about b settings many stands = record { stands = stands; settings = sym settings; callers = sym many }

@@ -1,5 +1,6 @@
 -- What the cells hold after a history: the board that it leaves, and shards that are right for it.
-use Rattle.std.specs.Prelude.{◌≡◌, ℕ, ◌≤◌, List, length, All}
+use Rattle.std.specs.Prelude.{◌≡◌, ℕ, ◌≤◌, true, List, length, All}
+use Rattle.std.specs.List.{AllByRecursion}
 use Rattle.cq_base.specs.declared.lang.Lang.{Lang}
 use Rattle.cq_base.specs.declared.settings.Settings.{Settings}
 use Rattle.cq_base.specs.Changes.{IsSoundChange}
@@ -20,10 +21,27 @@ callers_of about = about.callers
 abbrev pub state_in : About → List Event → State
 state_in about log = state about.callers log
 
--- each event is allowed, and each accepted change is sound
+-- if it is an acceptance, it is the first caller's
+abbrev pub IsOfFirst : Event → Type 0
+IsOfFirst (Accept by change) = by ≡ 0
+IsOfFirst (Ask by) = Unit {0}
+IsOfFirst (Took by r) = Unit {0}
+IsOfFirst (Back by r) = Unit {0}
+IsOfFirst (Done by r) = Unit {0}
+IsOfFirst (Publish p) = Unit {0}
+IsOfFirst (Open by p) = Unit {0}
+IsOfFirst (Shut by) = Unit {0}
+IsOfFirst (Floor f) = Unit {0}
+
+-- if only the first caller accepts, each acceptance is its
+abbrev pub AcceptedByFirst : About → List Event → Type 0
+AcceptedByFirst about log = about.first_only ≡ true → AllByRecursion IsOfFirst log
+
+-- each event is allowed, each accepted change is sound, and was accepted by a caller who may
 pub record IsLawful (about : About) (log : List Event) : Type 0 where
   pub lawful : Lawful about.settings about.callers log
   pub sound : All IsSoundChange (accepted log)
+  pub accepts : AcceptedByFirst about log
 
 -- how many changes each shard must have applied before the event: those that it publishes
 abbrev pub asks : Event → ℕ

@@ -1,5 +1,5 @@
 -- What contracts see of a pass over a board and its shards.
-use Rattle.std.specs.Prelude.{◌≡◌, ◌⊎◌, ℕ, ◌+◌, ◌^◌, ◌<◌, ◌≤◌, List, [], ◌++◌, length, slice_index_or, IfSome}
+use Rattle.std.specs.Prelude.{◌≡◌, ◌⊎◌, ℕ, ◌+◌, ◌^◌, ◌<◌, ◌≤◌, List, [], ◌∷◌, ◌++◌, length, slice_index_or, IfSome}
 use mathlib.Core.List.{IsPrefix}
 use Rattle.cq_base.specs.declared.lang.Lang.{Lang}
 use Rattle.cq_base.specs.declared.settings.Settings.{Settings}
@@ -12,7 +12,7 @@ use Rattle.cq_cells.specs.Callers.{Each, Differ}
 use Rattle.cq_cells.specs.Passes as passes
 use Rattle.cq_cells.specs.Passes.{CellsState, PassState, HasShard, by_of, least}
 use Rattle.cq_chain.specs.declared.about.About.{About}
-use Rattle.cq_chain.specs.Held.{state_in, IsLawful, IsShardOf, asks}
+use Rattle.cq_chain.specs.Held.{state_in, AcceptedByFirst, IsLawful, IsShardOf, asks}
 
 -- cells: the settings and the callers that they were made with
 abbrev pub BoardCells : Type 0
@@ -47,9 +47,11 @@ pub record IsOwn (p : BoardPass) (log : List Event) : Type 0 where
   pub by : own (by_of p) log ≡ own (by_of p) p.seen
   pub all : Each (λ c. own c log ≡ own c p.seen) p.callers
 
--- the event is that of the pass's caller or nobody's, and each shard is known to have applied what it publishes
+-- the event is that of the pass's caller or nobody's, an acceptance is by a caller who may, and each shard is known to have
+-- applied what it publishes
 pub record MayAdd (cells : BoardCells) (p : BoardPass) (e : Event) : Type 0 where
   pub maker : IfSome (maker e) (λ c. c ≡ by_of p)
+  pub accepts : AcceptedByFirst cells.about (e ∷ [])
   pub applied : (s : ℕ) → s < cells.about.settings.shards → asks e ≤ least p s
 
 -- what a pass finds that takes a shard: it is right after a history that begins with what the pass has seen, and in which

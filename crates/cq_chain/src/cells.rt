@@ -27,6 +27,7 @@ pub type Pass<W> = cq_cells::Pass<Board<W>, Shard, Event, About>;
 #[derive(Drop)]
 pub struct Cells<W: Indexed, R> {
     cells: cq_cells::Cells<Board<W>, Shard, Event, About, BoardLaw<W>, R>,
+    first_only: bool,
 }
 
 impl<W: Indexed, R> Model for Cells<W, R> {
@@ -37,7 +38,7 @@ impl<W: Indexed, R> Model for Cells<W, R> {
 
     ghost view = { λ c. c.cells };
 
-    ghost invariant = { λ c. (c.cells.shards ≡ c.cells.about.settings.shards) × (c.cells.callers ≡ c.cells.about.callers) × (c.cells.about.settings.change_limit < 2 ^ 63) };
+    ghost invariant = { λ c. (c.cells.shards ≡ c.cells.about.settings.shards) × (c.cells.callers ≡ c.cells.about.callers) × (c.cells.about.settings.change_limit < 2 ^ 63) × (c.first_only ≡ c.cells.about.first_only) };
 }
 
 impl<W: Indexed, R: Wait> Cells<W, R> {
@@ -80,6 +81,13 @@ impl<W: Indexed, R: Wait> Cells<W, R> {
 }
 
 impl<W: Indexed, R> Cells<W, R> {
+    /// Whether only the first caller accepts changes.
+    pub fn first_only(&self) -> bool
+        ensures { result ≡ self.now.about.first_only }
+    {
+        self.first_only
+    }
+
     /// Puts the board back, after at most one event. The pass has then seen that, too.
     pub fn leave_board(&self, board: Board<W>, pass: &mut Pass<W>)
         ghost event: { Option Happened }
@@ -143,6 +151,23 @@ impl<W: Indexed, R> Cells<W, R> {
         self.cells.join_pass(pass, other);
     }
 
+    /// The pass has then seen what another one has, too, which stays as it is. One of the two had seen all that the other
+    /// had.
+    pub fn level(&self, pass: &mut Pass<W>, other: &mut Pass<W>)
+        requires of { IsPassOf self.now pass.old × IsPassOf self.now other.old }
+        requires free { IsFree pass.old × IsFree other.old }
+        ensures of { IsPassOf self.now pass.new }
+        ensures same { IsSameCaller pass.old pass.new }
+        ensures other { other.new ≡ other.old }
+        ensures free { IsFree pass.new }
+        ensures seen { pass.new.seen ≡ longer pass.old.seen other.old.seen }
+        ensures one_history { AreOneHistory pass.old.seen other.old.seen }
+        ensures own { IsOwn pass.old pass.new.seen }
+        ensures least { (s : ℕ) → least pass.new s ≡ max (least pass.old s) (least other.old s) }
+    {
+        self.cells.level(pass, other);
+    }
+
     /// Cells of a board and its shards as they are made, and the pass of the first caller. It takes memory for a word and
     /// a slot for each; if that is refused, board and shards are given up.
     pub fn new(
@@ -150,6 +175,7 @@ impl<W: Indexed, R> Cells<W, R> {
         alloc: Global,
         board: Board<W>,
         shards: Vec<Shard>,
+        first_only: bool,
     ) -> Result<(Cells<W, R>, Pass<W>), Memory>
     where
         R: Drop,
@@ -159,14 +185,16 @@ impl<W: Indexed, R> Cells<W, R> {
         requires shards { AreFresh board.settings.shards shards.items }
         ensures settings { IfOk result (λ c. c.0.about.settings ≡ board.settings) }
         ensures callers { IfOk result (λ c. c.0.about.callers ≡ length board.state.views) }
+        ensures first_only { IfOk result (λ c. c.0.about.first_only ≡ first_only) }
         ensures of { IfOk result (λ c. IsPassOf c.0 c.1) }
         ensures first { IfOk result (λ c. c.1 ≡ first_pass c.0) }
     {
         let about = About {
             settings: *board.settings(),
             callers: board.callers(),
+            first_only,
         };
         let (cells, pass) = cq_cells::Cells::new(rt, alloc, &about, board, shards)?;
-        Ok((Cells { cells }, pass))
+        Ok((Cells { cells, first_only }, pass))
     }
 }

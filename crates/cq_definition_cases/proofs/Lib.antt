@@ -16,6 +16,7 @@ mod Measures
 mod Replies
 mod Requests
 mod Scopes
+mod ServerLogs
 mod Sessions
 mod Steps
 mod Talks

@@ -1,8 +1,11 @@
 -- What a cutter of lines may not find, and what may not be written for lines.
 use Rattle.std.specs.Prelude.{◌≡◌, ◌⊎◌, ℕ, ◌<◌, true, false, List, [], ◌∷◌, ◌++◌, length, flat_map, Option, Some}
 use Rattle.std.proofs.Common.{Bor, arith, ap, refl, sym, ◌∙◌, inl, inr, append-nil}
+use Rattle.cq_definition_cases.proofs.Different.{is_true}
+use Rattle.cq_io.specs.declared.sink.Sink as sink
 use Rattle.cq_lines.specs.Cutting.{Cuts, HasCutCause, IsNext, IsSpent}
 use Rattle.cq_lines.specs.Held.{Held}
+use Rattle.cq_lines.specs.LineLogs.{BreaksOff, Logged, log_at}
 use Rattle.cq_lines.specs.Pieces.{all_lines, ended, split}
 use Rattle.cq_lines.specs.Serving.{Serves}
 use Rattle.cq_lines.specs.declared.ending.End.TheVariants as end
@@ -67,3 +70,11 @@ the_limit_is_not_the_end written serves =
     let got : 97 ∷ 10 ∷ [] ≡ serves.got = serves.bytes ∙ append-nil serves.got in
     let two : 2 ≡ length serves.got = ap (λ (s : List ℕ). length s) got in
     let fewer : length serves.got < 2 = serves.served.1 in omega (arith, two, fewer)
+
+-- ---- a log of lines, whose sink failed
+
+pub no_line_is_kept_after_a_failure : {K : Type 0} (onto : sink.Ghosts K) (old : Logged K) (after : K) (line : List ℕ) → BreaksOff onto old (log_at after true) line → ⊥
+no_line_is_kept_after_a_failure onto old after _ breaks = is_true breaks.broken
+
+pub nothing_is_written_after_a_failure : {K : Type 0} (onto : sink.Ghosts K) (before : K) (new : Logged K) (line : List ℕ) → BreaksOff onto (log_at before false) new line → new.sink ≡ before
+nothing_is_written_after_a_failure onto before new _ breaks = breaks.later refl

@@ -60,7 +60,7 @@ cut_line limit a b c x y lines got line so came taken within same going next =
                   taken = count;
                   within = within;
                   limited = same ∙ so.limited;
-                  cut = inr (rw all (ap (λ t. lines ++ t) (last_line_some line last.1)), last.2, last.3, last.4, last.5);
+                  cut = inr (rw all (ap (λ t. lines ++ t) (last_line_some line last.1)), last.2, last.3, last.4, last.5, rw all last.1);
                 }
           ]
     ]

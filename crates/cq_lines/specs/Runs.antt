@@ -3,7 +3,7 @@ use Rattle.std.specs.Prelude.{◌≡◌, ◌<◌, ◌≤◌, ◌⊎◌, ℕ, ◌
 use Rattle.std.specs.Io.KnownBytes.{Consumes, IsAtEnd}
 use Rattle.std.specs.List.{AllByRecursion}
 use Rattle.cq_lines.specs.Held.{Held}
-use Rattle.cq_lines.specs.Pieces.{HasNoFeed, ended, closed_lines, all_lines}
+use Rattle.cq_lines.specs.Pieces.{HasNoFeed, ended, split, closed_lines, all_lines}
 use Rattle.cq_lines.specs.Cutting.{Cuts, IsNext, IsSpent, IsSpentFound}
 use Rattle.cq_lines.specs.declared.lines.Cut.{Cut}
 use Rattle.cq_lines.specs.declared.lines.Cut.TheVariants as cut
@@ -17,7 +17,7 @@ pub record IsFresh (held : Held) : Type 0 where
 -- the bytes taken are the lines, each with its line feed, and what is held; or the last line had none, and all is given
 abbrev pub CutSoFar : Type 0 → List ℕ → List (List ℕ) → Held → Type 0
 CutSoFar at_end got lines held =
-    (AllByRecursion HasNoFeed lines × (got ≡ flat_map ended lines ++ held.pending) × (held.over ≡ false)) ⊎ ((all_lines got ≡ lines) × (held.pending ≡ []) × (held.over ≡ true) × at_end × (held.taken < held.limit))
+    (AllByRecursion HasNoFeed lines × (got ≡ flat_map ended lines ++ held.pending) × (held.over ≡ false)) ⊎ ((all_lines got ≡ lines) × (held.pending ≡ []) × (held.over ≡ true) × at_end × (held.taken < held.limit) × (0 < length (split got).1))
 
 -- these lines were given so far
 pub record CutTo (limit : ℕ) (rest rest_now : Option (List ℕ)) (held : Held) (lines : List (List ℕ)) : Type 0 where

@@ -60,3 +60,10 @@ module _ {W R : Type 0} (hub : Shared W R) where
   pub child_idle : (p child : BoardPass) → child ≡ child_of p → IsPassOf hub child → IsIdle hub p → 0 < p.room → IsIdle hub child
   child_idle p child same of idle room =
       record { of = of; closed = subst IsClosed (sym same) (unmade_closed (callers_of hub) p.next p.seen (idle.of.of.unmade (some_next p.next p.room idle.of.of.of.later room) p.next (omega arith))) }
+
+  -- of passes that have no view open: the first one, and the rest
+  pub first_idle : (passes rest : List BoardPass) (p : BoardPass) → passes ≡ p ∷ rest → All (IsIdle hub) passes → IsIdle hub p
+  first_idle passes rest p same all = (subst (All (IsIdle hub)) same all) 0 p (omega arith)
+
+  pub rest_idle : (passes rest : List BoardPass) (p : BoardPass) → passes ≡ p ∷ rest → All (IsIdle hub) passes → All (IsIdle hub) rest
+  rest_idle passes rest p same all = All-tail (IsIdle hub) p rest (subst (All (IsIdle hub)) same all)

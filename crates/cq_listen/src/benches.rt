@@ -1,4 +1,4 @@
-ghost use Rattle.std.specs.Prelude.{◌≡◌, ◌+◌, ◌≤◌, vec_len, All, IfOk, OnOk};
+ghost use Rattle.std.specs.Prelude.{◌≡◌, vec_len, All, IfOk};
 ghost use Rattle.cq_base.specs.Settings.{IsInRange};
 ghost use Rattle.cq_shared.specs.SharedPasses.{settings_of};
 ghost use Rattle.cq_listen.specs.Seats.{IsIdle};
@@ -8,7 +8,7 @@ use cq_base::{Memory, Settings};
 use cq_chain::Pass;
 use cq_io::Gate;
 use cq_serve::{Bell, work};
-use cq_session::Server;
+use cq_session::{Keeper, Server};
 use cq_shared::Shared;
 use cq_work::{Keyer, Work};
 use std::alloc::Global;
@@ -18,15 +18,16 @@ use std::sync::ledger::Ledger;
 
 /// What a worker's thread has of its own: a pass. Contracts see it as the settings of its hub.
 #[derive(Drop)]
-pub(crate) struct Bench<'a, L: Ledger, R, G> {
+pub(crate) struct Bench<'a, L: Ledger, R, P, G> {
     alloc: Global,
     settings: &'a Settings,
     hub: &'a Shared<Work<L>, R>,
+    keeper: &'a P,
     gate: &'a G,
     pass: Pass<Work<L>>,
 }
 
-impl<'a, L: Ledger, R, G> Model for Bench<'a, L, R, G> {
+impl<'a, L: Ledger, R, P, G> Model for Bench<'a, L, R, P, G> {
     ghost use Rattle.cq_base.specs.declared.settings.Settings.{Settings as Told};
     ghost use Rattle.cq_listen.specs.Seats.{IsSeated};
 
@@ -37,7 +38,7 @@ impl<'a, L: Ledger, R, G> Model for Bench<'a, L, R, G> {
     ghost invariant = { λ b. IsSeated b.settings.now b.hub.now b.pass };
 }
 
-impl<'a, L: Ledger, R, G> Bench<'a, L, R, G> {
+impl<'a, L: Ledger, R, P, G> Bench<'a, L, R, P, G> {
     ghost use Rattle.std.specs.Prelude.{◌≡◌};
     ghost use Rattle.cq_base.specs.Settings.{IsInRange};
     ghost use Rattle.cq_shared.specs.SharedPasses.{settings_of};
@@ -48,6 +49,7 @@ impl<'a, L: Ledger, R, G> Bench<'a, L, R, G> {
         alloc: Global,
         settings: &'a Settings,
         hub: &'a Shared<Work<L>, R>,
+        keeper: &'a P,
         gate: &'a G,
         pass: Pass<Work<L>>,
     ) -> Self
@@ -60,6 +62,7 @@ impl<'a, L: Ledger, R, G> Bench<'a, L, R, G> {
             alloc,
             settings,
             hub,
+            keeper,
             gate,
             pass,
         }
@@ -67,10 +70,10 @@ impl<'a, L: Ledger, R, G> Bench<'a, L, R, G> {
 }
 
 // Works on a bench until the bell's end. The keys are those of the keyer.
-fn work_at<Q: Wait, L: Ledger, R: Wait, G: Gate>(
+fn work_at<Q: Wait, L: Ledger, R: Wait, P: Keeper<Work<L>, Shared<Work<L>, R>>, G: Gate>(
     rt: &Q,
     keyer: &Keyer,
-    bench: Bench<'_, L, R, G>,
+    bench: Bench<'_, L, R, P, G>,
     bell: &Bell,
 )
     requires { bench ≡ keyer.now.settings }
@@ -78,6 +81,7 @@ fn work_at<Q: Wait, L: Ledger, R: Wait, G: Gate>(
     let Bench {
         alloc,
         hub,
+        keeper,
         gate,
         pass,
         ..
@@ -87,12 +91,14 @@ fn work_at<Q: Wait, L: Ledger, R: Wait, G: Gate>(
         alloc,
         keyer,
         hub,
+        keeper,
         gate,
     };
     let _pass = work(&server, pass, bell);
 }
 
-impl<'a, L: Ledger, R: Wait, G: Gate> Worker for Bench<'a, L, R, G> {
+impl<'a, L: Ledger, R: Wait, P: Keeper<Work<L>, Shared<Work<L>, R>>, G: Gate> Worker
+    for Bench<'a, L, R, P, G> {
     ghost settings = { λ b. b };
 
     fn work<Q: Wait>(self, rt: &Q, keyer: &Keyer, bell: &Bell) {
@@ -100,28 +106,24 @@ impl<'a, L: Ledger, R: Wait, G: Gate> Worker for Bench<'a, L, R, G> {
     }
 }
 
-/// So many benches, whose callers are the next ones of the pass.
-pub(crate) fn benches_of<'a, L: Ledger, R, G>(
+/// A bench for each of these passes.
+pub(crate) fn benches_of<'a, L: Ledger, R, P, G>(
     alloc: Global,
     settings: &'a Settings,
     hub: &'a Shared<Work<L>, R>,
+    keeper: &'a P,
     gate: &'a G,
-    pass: &mut Pass<Work<L>>,
-    number: u32,
-) -> Result<Vec<Bench<'a, L, R, G>>, Memory>
+    passes: Vec<Pass<Work<L>>>,
+) -> Result<Vec<Bench<'a, L, R, P, G>>, Memory>
     requires in_range { IsInRange settings.now }
     requires settings { settings_of hub.now ≡ settings.now }
-    requires idle { IsIdle hub.now pass.old }
-    requires room { number ≤ pass.old.room }
-    ensures idle { IsIdle hub.now pass.new }
-    ensures room { OnOk result (pass.new.room + number ≡ pass.old.room) }
-    ensures number { IfOk result (λ benches. vec_len benches ≡ number) }
+    requires idle { All (IsIdle hub.now) passes.items }
+    ensures number { IfOk result (λ benches. vec_len benches ≡ vec_len passes) }
     ensures settings { IfOk result (λ benches. All (λ bench. bench ≡ settings.now) benches.items) }
 {
-    let mut benches = Vec::with_capacity(alloc, number as usize)?;
-    'benches: for _bench in 0..number {
-        let own = hub.split_pass(pass);
-        benches.push(Bench::new(alloc, settings, hub, gate, own))?;
+    let mut benches = Vec::with_capacity(alloc, passes.len())?;
+    'benches: for own in passes {
+        benches.push(Bench::new(alloc, settings, hub, keeper, gate, own))?;
     }
     Ok(benches)
 }

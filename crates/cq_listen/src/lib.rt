@@ -12,10 +12,12 @@ mod connection;
 mod doorway;
 mod floor;
 mod listening;
+mod passes;
 mod queue;
 mod seats;
 mod sessions;
 mod workers;
 
 pub use floor::Floor;
-pub use listening::{Served, serve};
+pub use listening::{Passes, Served, serve, serve_over};
+pub use passes::passes_of;

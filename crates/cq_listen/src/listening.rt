@@ -1,4 +1,4 @@
-ghost use Rattle.std.specs.Prelude.{◌≡◌, ◌+◌, ◌≤◌, vec_len, IsSome, IfOk, OnErr};
+ghost use Rattle.std.specs.Prelude.{◌≡◌, ◌+◌, ◌≤◌, vec_len, All, IsSome, IfOk, OnErr};
 ghost use Rattle.cq_base.specs.Settings.{IsInRange};
 ghost use Rattle.cq_shared.specs.SharedPasses.{settings_of};
 ghost use Rattle.cq_listen.specs.Endings.{HasEnded, IsServedWith};
@@ -8,6 +8,7 @@ use crate::benches::benches_of;
 use crate::connection::Connection;
 use crate::doorway::Doorway;
 use crate::floor::Floor;
+use crate::passes::passes_of;
 use crate::queue::Queue;
 use crate::seats::{Seat, seats_of};
 use crate::sessions::Attendant;
@@ -16,6 +17,9 @@ use cq_base::{Memory, Settings};
 use cq_chain::Pass;
 use cq_io::{Doors, Gate, Sink, Source};
 use cq_serve::{Bell, RingingGate};
+use cq_session::{Keeper, NoLog};
+use cq_shard::Indexed;
+use cq_shared::Shared;
 use cq_work::{Keyer, Work};
 use std::sync::Wait;
 use std::sync::ledger::Ledger;
@@ -104,22 +108,104 @@ fn serve_doors<
     }
 }
 
-/// Serves the connections that the doors give, each by a session over the hub, until no more will come or a call of the doors
-/// fails: then no further door is asked for, and the connections that came before are served to their ends. So many threads
-/// run the sessions, each one at a time, and so many workers make the works of accepted changes beside them. A connection's
-/// own fault ends only its session. The gate is called from the threads of the sessions and the workers, as `session` and
-/// `turn` say.
+/// The passes with which a server begins, none of which has a view open: those of its workers, those of the threads of its
+/// sessions, and that of the calling thread.
+#[derive(Drop)]
+pub struct Passes<W: Indexed> {
+    pub workers: Vec<Pass<W>>,
+    pub sessions: Vec<Pass<W>>,
+    pub own: Pass<W>,
+}
+
+/// Serves the connections that the doors give, each by a session over the hub and the keeper, until no more will come or a call
+/// of the doors fails: then no further door is asked for, and the connections that came before are served to their ends. So
+/// many threads run the sessions as there are passes for them, each one at a time, and so many workers make the works of
+/// accepted changes beside them. A connection's own fault ends only its session. The gate is called from the threads of the
+/// sessions and the workers, as `kept_session` and `turn` say.
 ///
 /// Only the calling thread asks the doors. It hands each connection over by a queue with as many places as there are
 /// sessions, and asks for the next one only if a place is free. So a client that sends nothing, or half a line, or never
 /// reads, keeps one thread, and nobody else. With no session, or if no thread can be made for one, the calling thread serves each
 /// connection itself before it asks for the next one; a worker for which none can be made doesn't work.
 ///
-/// Each worker, each thread of the sessions and the calling thread has a caller of the hub: the pass makes them, and is the
-/// calling thread's then. It may have seen any history in which its caller has no view open. `Memory` comes only before the
-/// first door, and the doors are as before then: it is taken for a cutter for each session and for the calling thread, and
-/// for the queue. What comes back says with what connections were served: the settings, and how many workers and sessions
-/// there were.
+/// `Memory` comes only before the first door, and the doors are as before then: it is taken for a cutter for each session and
+/// for the calling thread, and for the queue. What comes back says with what connections were served: the settings, and how
+/// many workers and sessions there were.
+pub fn serve_over<
+    'f,
+    Q: Threads + Wait + Sync,
+    L: Ledger + Send + Sync,
+    R: Wait + Sync,
+    P: Keeper<Work<L>, Shared<Work<L>, R>> + Sync,
+    S: Source + Send + Drop,
+    K: Sink + Send + Drop,
+    D: Doors<In = S, Out = K>,
+    G: Gate + Sync,
+>(
+    rt: &'f Q,
+    floor: &Floor<'f, L, R, P, G>,
+    passes: Passes<Work<L>>,
+    doors: &mut D,
+) -> Result<Served, Memory>
+    requires in_range { IsInRange floor.now.settings.now }
+    requires settings { settings_of floor.now.hub.now ≡ floor.now.settings.now }
+    requires keeps { P.Keeps floor.now.keeper.now floor.now.hub.now }
+    requires workers { All (IsIdle floor.now.hub.now) passes.workers.items }
+    requires sessions { All (IsIdle floor.now.hub.now) passes.sessions.items }
+    requires own { IsIdle floor.now.hub.now passes.own }
+    requires few { vec_len passes.sessions ≤ 64 }
+    requires bound { IsSome (D.bound doors.old) }
+    ensures ended { IfOk result (λ served. HasEnded (D.faults doors.old) (D.faults doors.new)
+        (D.left doors.old) (D.left doors.new) served.failed) }
+    ensures made { IfOk result (IsServedWith floor.now.settings.now
+        (vec_len passes.workers) (vec_len passes.sessions)) }
+    ensures refused { OnErr result (doors.new ≡ doors.old) }
+    ensures bound { D.bound doors.new ≡ D.bound doors.old }
+{
+    let Passes {
+        workers,
+        sessions,
+        own,
+    } = passes;
+    let places = sessions.len() as u32;
+    let bell = Bell::new();
+    let ringing = RingingGate {
+        gate: floor.gate,
+        bell: &bell,
+        rt,
+    };
+    let benches = benches_of(
+        floor.alloc,
+        floor.settings,
+        floor.hub,
+        floor.keeper,
+        floor.gate,
+        workers,
+    )?;
+    let seating = Floor {
+        alloc: floor.alloc,
+        settings: floor.settings,
+        counters: floor.counters,
+        hub: floor.hub,
+        keeper: floor.keeper,
+        gate: &ringing,
+    };
+    let seats = seats_of(&seating, sessions)?;
+    let own = Seat::new(&seating, own)?;
+    let queue: Queue<Connection<S, K>> = Queue::new(floor.alloc, places)?;
+    let keyer = Keyer::plain(floor.settings);
+    let staff = Staff {
+        workers: benches,
+        bell: &bell,
+        attendants: seats,
+        own,
+    };
+    Ok(serve_doors(rt, &keyer, staff, queue, doors))
+}
+
+/// Serves the connections that the doors give, as `serve_over` does, and keeps no line: each session accepts its changes
+/// by its own caller. Each worker, each thread of the sessions and the calling thread has a caller of the hub: the pass makes
+/// them, and is the calling thread's then. It may have seen any history in which its caller has no view open.
 pub fn serve<
     'f,
     Q: Threads + Wait + Sync,
@@ -131,7 +217,7 @@ pub fn serve<
     G: Gate + Sync,
 >(
     rt: &'f Q,
-    floor: &Floor<'f, L, R, G>,
+    floor: &Floor<'f, L, R, NoLog, G>,
     pass: Pass<Work<L>>,
     doors: &mut D,
     workers: u32,
@@ -151,36 +237,12 @@ pub fn serve<
     ensures bound { D.bound doors.new ≡ D.bound doors.old }
 {
     let mut pass = pass;
-    let bell = Bell::new();
-    let ringing = RingingGate {
-        gate: floor.gate,
-        bell: &bell,
-        rt,
-    };
-    let benches = benches_of(
-        floor.alloc,
-        floor.settings,
-        floor.hub,
-        floor.gate,
-        &mut pass,
+    let workers = passes_of(floor.alloc, floor.hub, &mut pass, workers)?;
+    let sessions = passes_of(floor.alloc, floor.hub, &mut pass, sessions)?;
+    let passes = Passes {
         workers,
-    )?;
-    let seating = Floor {
-        alloc: floor.alloc,
-        settings: floor.settings,
-        counters: floor.counters,
-        hub: floor.hub,
-        gate: &ringing,
+        sessions,
+        own: pass,
     };
-    let seats = seats_of(&seating, &mut pass, sessions)?;
-    let own = Seat::new(&seating, pass)?;
-    let queue: Queue<Connection<S, K>> = Queue::new(floor.alloc, sessions)?;
-    let keyer = Keyer::plain(floor.settings);
-    let staff = Staff {
-        workers: benches,
-        bell: &bell,
-        attendants: seats,
-        own,
-    };
-    Ok(serve_doors(rt, &keyer, staff, queue, doors))
+    serve_over(rt, floor, passes, doors)
 }

@@ -1,4 +1,4 @@
-ghost use Rattle.std.specs.Prelude.{◌≡◌, ◌+◌, ◌≤◌, vec_len, All, IfOk, OnOk};
+ghost use Rattle.std.specs.Prelude.{◌≡◌, vec_len, All, IfOk};
 ghost use Rattle.cq_base.specs.Settings.{IsInRange};
 ghost use Rattle.cq_shared.specs.SharedPasses.{settings_of};
 ghost use Rattle.cq_listen.specs.Seats.{IsIdle};
@@ -10,7 +10,7 @@ use cq_base::{Counters, Memory, Settings};
 use cq_chain::Pass;
 use cq_io::{Gate, Sink, Source};
 use cq_lines::Lines;
-use cq_session::{Server, session};
+use cq_session::{Keeper, Server, kept_session};
 use cq_shared::Shared;
 use cq_work::{Keyer, Work};
 use std::alloc::Global;
@@ -22,17 +22,19 @@ use std::thread::Threads;
 /// What a thread of the sessions has of its own: a pass with no view open, and a cutter with the limit of the settings.
 /// Contracts see it as the settings of its hub.
 #[derive(Drop)]
-pub(crate) struct Seat<'a, L: Ledger, R, G> {
+pub(crate) struct Seat<'a, L: Ledger, R: Wait, P: Keeper<Work<L>, Shared<Work<L>, R>>, G> {
     alloc: Global,
     settings: &'a Settings,
     counters: &'a Counters<L>,
     hub: &'a Shared<Work<L>, R>,
+    keeper: &'a P,
     gate: &'a G,
     lines: Lines,
     pass: Pass<Work<L>>,
 }
 
-impl<'a, L: Ledger, R, G> Model for Seat<'a, L, R, G> {
+impl<'a, L: Ledger, R: Wait, P: Keeper<Work<L>, Shared<Work<L>, R>>, G> Model
+    for Seat<'a, L, R, P, G> {
     ghost use Rattle.cq_base.specs.declared.settings.Settings.{Settings as Told};
     ghost use Rattle.cq_listen.specs.Seats.{IsFurnished};
 
@@ -40,19 +42,21 @@ impl<'a, L: Ledger, R, G> Model for Seat<'a, L, R, G> {
 
     ghost view = { λ s. s.settings.now };
 
-    ghost invariant = { λ s. IsFurnished s.settings.now s.hub.now s.pass s.lines.limit };
+    ghost invariant = { λ s. IsFurnished s.settings.now s.hub.now s.pass s.lines.limit
+        × P.Keeps s.keeper.now s.hub.now };
 }
 
-impl<'a, L: Ledger, R, G> Seat<'a, L, R, G> {
+impl<'a, L: Ledger, R: Wait, P: Keeper<Work<L>, Shared<Work<L>, R>>, G> Seat<'a, L, R, P, G> {
     ghost use Rattle.std.specs.Prelude.{◌≡◌, IfOk};
     ghost use Rattle.cq_base.specs.Settings.{IsInRange};
     ghost use Rattle.cq_shared.specs.SharedPasses.{settings_of};
     ghost use Rattle.cq_listen.specs.Seats.{IsIdle};
 
     /// The seat of a pass that has no view open. It takes memory for its cutter.
-    pub(crate) fn new(floor: &Floor<'a, L, R, G>, pass: Pass<Work<L>>) -> Result<Self, Memory>
+    pub(crate) fn new(floor: &Floor<'a, L, R, P, G>, pass: Pass<Work<L>>) -> Result<Self, Memory>
         requires in_range { IsInRange floor.now.settings.now }
         requires settings { settings_of floor.now.hub.now ≡ floor.now.settings.now }
+        requires keeps { P.Keeps floor.now.keeper.now floor.now.hub.now }
         requires idle { IsIdle floor.now.hub.now pass }
         ensures { IfOk result (λ seat. seat ≡ floor.now.settings.now) }
     {
@@ -62,6 +66,7 @@ impl<'a, L: Ledger, R, G> Seat<'a, L, R, G> {
             settings: floor.settings,
             counters: floor.counters,
             hub: floor.hub,
+            keeper: floor.keeper,
             gate: floor.gate,
             lines,
             pass,
@@ -70,12 +75,15 @@ impl<'a, L: Ledger, R, G> Seat<'a, L, R, G> {
 }
 
 // Serves a connection to its end, by a session on a seat. The keys are those of the keyer.
-fn converse<Q: Threads + Sync, L: Ledger, R: Wait, S: Source + Drop, K: Sink + Drop, G: Gate>(
-    rt: &Q,
-    keyer: &Keyer,
-    seat: &mut Seat<'_, L, R, G>,
-    connection: Connection<S, K>,
-)
+fn converse<
+    Q: Threads + Sync,
+    L: Ledger,
+    R: Wait,
+    P: Keeper<Work<L>, Shared<Work<L>, R>>,
+    S: Source + Drop,
+    K: Sink + Drop,
+    G: Gate,
+>(rt: &Q, keyer: &Keyer, seat: &mut Seat<'_, L, R, P, G>, connection: Connection<S, K>)
     requires { seat.old ≡ keyer.now.settings }
     ensures { seat.new ≡ seat.old }
 {
@@ -89,9 +97,10 @@ fn converse<Q: Threads + Sync, L: Ledger, R: Wait, S: Source + Drop, K: Sink + D
         alloc: seat.alloc,
         keyer,
         hub: seat.hub,
+        keeper: seat.keeper,
         gate: seat.gate,
     };
-    let _end = session(
+    let _over = kept_session(
         &server,
         &mut seat.pass,
         &mut seat.lines,
@@ -101,8 +110,15 @@ fn converse<Q: Threads + Sync, L: Ledger, R: Wait, S: Source + Drop, K: Sink + D
     );
 }
 
-impl<'a, L: Ledger, R: Wait, S: Source + Drop, K: Sink + Drop, G: Gate> Attendant<Connection<S, K>>
-    for Seat<'a, L, R, G> {
+impl<
+    'a,
+    L: Ledger,
+    R: Wait,
+    P: Keeper<Work<L>, Shared<Work<L>, R>>,
+    S: Source + Drop,
+    K: Sink + Drop,
+    G: Gate,
+> Attendant<Connection<S, K>> for Seat<'a, L, R, P, G> {
     ghost settings = { λ s. s };
 
     fn attend<Q: Threads + Sync>(&mut self, rt: &Q, keyer: &Keyer, connection: Connection<S, K>) {
@@ -110,24 +126,20 @@ impl<'a, L: Ledger, R: Wait, S: Source + Drop, K: Sink + Drop, G: Gate> Attendan
     }
 }
 
-/// So many seats, whose callers are the next ones of the pass.
-pub(crate) fn seats_of<'a, L: Ledger, R, G>(
-    floor: &Floor<'a, L, R, G>,
-    pass: &mut Pass<Work<L>>,
-    number: u32,
-) -> Result<Vec<Seat<'a, L, R, G>>, Memory>
+/// A seat for each of these passes.
+pub(crate) fn seats_of<'a, L: Ledger, R: Wait, P: Keeper<Work<L>, Shared<Work<L>, R>>, G>(
+    floor: &Floor<'a, L, R, P, G>,
+    passes: Vec<Pass<Work<L>>>,
+) -> Result<Vec<Seat<'a, L, R, P, G>>, Memory>
     requires in_range { IsInRange floor.now.settings.now }
     requires settings { settings_of floor.now.hub.now ≡ floor.now.settings.now }
-    requires idle { IsIdle floor.now.hub.now pass.old }
-    requires room { number ≤ pass.old.room }
-    ensures idle { IsIdle floor.now.hub.now pass.new }
-    ensures room { OnOk result (pass.new.room + number ≡ pass.old.room) }
-    ensures number { IfOk result (λ seats. vec_len seats ≡ number) }
+    requires keeps { P.Keeps floor.now.keeper.now floor.now.hub.now }
+    requires idle { All (IsIdle floor.now.hub.now) passes.items }
+    ensures number { IfOk result (λ seats. vec_len seats ≡ vec_len passes) }
     ensures settings { IfOk result (λ seats. All (λ seat. seat ≡ floor.now.settings.now) seats.items) }
 {
-    let mut seats = Vec::with_capacity(floor.alloc, number as usize)?;
-    'seats: for _seat in 0..number {
-        let own = floor.hub.split_pass(pass);
+    let mut seats = Vec::with_capacity(floor.alloc, passes.len())?;
+    'seats: for own in passes {
         seats.push(Seat::new(floor, own)?)?;
     }
     Ok(seats)

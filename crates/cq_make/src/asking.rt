@@ -11,7 +11,7 @@ use cq_hub::{Hub, Solo, SoloPass};
 use cq_io::OpenGate;
 use cq_reply::Reply;
 use cq_request::{Kind, Query};
-use cq_session::{Server, query_reply};
+use cq_session::{NoLog, Server, query_reply};
 use cq_work::Work;
 use std::alloc::Global;
 use std::sync::ledger::Ledger;
@@ -36,7 +36,7 @@ fn question(alloc: Global, kind: Kind) -> Result<Query, Memory>
 
 /// The reply to a question about the project, by all changes that are accepted.
 pub(crate) fn reply_of<R: Threads + Sync, L: Ledger>(
-    server: &Server<'_, R, Solo<Work<L>>, OpenGate>,
+    server: &Server<'_, R, Solo<Work<L>>, NoLog, OpenGate>,
     kind: Kind,
     pass: &mut SoloPass<Work<L>>,
     steps: &mut Steps<L>,

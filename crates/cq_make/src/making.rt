@@ -19,7 +19,7 @@ use cq_hub::{Hub, Solo, SoloPass};
 use cq_io::{Failed, OpenGate, Sink, send};
 use cq_reply::{FileRow, Reply};
 use cq_request::Kind;
-use cq_session::Server;
+use cq_session::{NoLog, Server};
 use cq_work::{Keyer, Work};
 use std::alloc::Global;
 use std::sync::ledger::Ledger;
@@ -116,6 +116,7 @@ fn line_made<R: Threads + Sync, L: Ledger>(
         alloc,
         keyer: &keyer,
         hub: &hub,
+        keeper: &NoLog,
         gate: &OpenGate,
     };
     let groups = reply_of(&server, Kind::Groups, &mut pass, steps)?;

@@ -8,7 +8,7 @@ use cq_board::Refused;
 use cq_hub::{Hub, Solo, SoloPass};
 use cq_io::{Gate, OpenGate};
 use cq_serve::{Turn, turn};
-use cq_session::Server;
+use cq_session::{NoLog, Server};
 use cq_work::{Keyer, Work};
 use std::alloc::Global;
 use std::marker::Brand;
@@ -40,7 +40,7 @@ fn put(alloc: Global, text: &str) -> Result<Change, Memory>
 
 // What two turns come to after a change is accepted, and what is done and published then.
 fn two_turns<R, L: Ledger, H: Hub<Work<L>>, G: Gate>(
-    server: &Server<'_, R, H, G>,
+    server: &Server<'_, R, H, NoLog, G>,
     change: Change,
     pass: &mut H::Pass,
 ) -> Result<(Turn, Turn, u64, u64), Refused>
@@ -75,6 +75,7 @@ fn turns<R>(
         alloc,
         keyer: &keyer,
         hub: &hub,
+        keeper: &NoLog,
         gate: &OpenGate,
     };
     two_turns(&server, change, &mut pass)

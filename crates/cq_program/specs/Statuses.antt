@@ -9,6 +9,10 @@ use Rattle.cq_lines.specs.declared.ending.End.{End}
 use Rattle.cq_lines.specs.declared.ending.End.TheVariants as end
 use Rattle.cq_listen.specs.Endings.{IsServedWith}
 use Rattle.cq_listen.specs.declared.listening.Served.{Served}
+use Rattle.cq_serve_kept.specs.declared.serving.Kept.{Kept}
+use Rattle.cq_serve_kept.specs.declared.serving.Kept.TheVariants as logged
+use Rattle.cq_shorten.specs.declared.shortening.Shortened.{Shortened}
+use Rattle.cq_shorten.specs.declared.shortening.Shortened.TheVariants as shortened
 use Rattle.cq_tokask.specs.declared.kept.Asked.{Asked}
 use Rattle.cq_tokask.specs.declared.kept.Asked.TheVariants as kept
 use Rattle.cq_words.specs.declared.command.Listen.{Listen}
@@ -46,9 +50,23 @@ status_of_exported exported.Refused = ended.LineRefused
 status_of_exported exported.TooLarge = ended.TooLarge
 status_of_exported (exported.Ended by) = status_of by
 
+-- the status of the shortening of a log
+abbrev pub status_of_shortened : Shortened → Status
+status_of_shortened shortened.Refused = ended.LineRefused
+status_of_shortened (shortened.Ended by) = status_of by
+
 -- the status of the serving of connections
 abbrev pub status_of_served : Served → Status
 status_of_served served = if served.failed then ended.DoorsFault else ended.Done
+
+-- the status of a server that keeps a log
+abbrev pub status_of_logged : Kept → Status
+status_of_logged (logged.Served served) = status_of_served served
+status_of_logged logged.Broken = ended.WriteFault
+status_of_logged logged.Refused = ended.LineRefused
+status_of_logged logged.Spent = ended.Spent
+status_of_logged logged.ReadFault = ended.ReadFault
+status_of_logged logged.Unbound = ended.DoorsFault
 
 -- how the writing of one line ends a run
 abbrev pub end_of : {E : Type 0} → Result (Unit {0}) E → End

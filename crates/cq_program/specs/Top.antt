@@ -1,5 +1,5 @@
 -- What the top call does, by its status.
-use Rattle.std.specs.Prelude.{◌≡◌, ◌≢◌, ◌==◌, ℕ, ◌+◌, Bool, true, false, MatchBool, List, [], map, Option, Some, None, Result}
+use Rattle.std.specs.Prelude.{◌≡◌, ◌≢◌, ◌⊎◌, ◌==◌, ℕ, ◌+◌, Bool, true, false, MatchBool, List, [], map, Option, Some, None, Result}
 use Rattle.cq_base.specs.declared.settings.Settings.{Settings}
 use Rattle.cq_beside.specs.Replies.{AreWithWorkers}
 use Rattle.cq_drive.specs.Script.{IsScript}
@@ -32,7 +32,12 @@ use Rattle.cq_words.specs.declared.command.Export.{Export}
 use Rattle.cq_words.specs.declared.command.Listen.{Listen}
 use Rattle.cq_words.specs.declared.command.Make.{Make}
 use Rattle.cq_words.specs.declared.command.Run.{Run}
-use Rattle.cq_program.specs.Statuses.{Ends, HasListened, HasServed, end_of, status_of, status_of_asked, status_of_exported}
+use Rattle.cq_io.specs.Causes.{Rose}
+use Rattle.cq_log.specs.Reads.{ReadsMost, ReadsNone}
+use Rattle.cq_serve_kept.specs.Continued.{ContinuesBroken, ContinuesWhole, TookLog}
+use Rattle.cq_shorten.specs.Shortened.{Shortens}
+use Rattle.cq_shorten.specs.declared.shortening.Shortened.{Shortened}
+use Rattle.cq_program.specs.Statuses.{Ends, HasListened, HasServed, end_of, status_of, status_of_asked, status_of_exported, status_of_shortened}
 use Rattle.cq_program.specs.declared.status.Status.{Status}
 use Rattle.cq_program.specs.declared.status.Status.TheVariants as ended
 
@@ -40,6 +45,8 @@ use Rattle.cq_program.specs.declared.status.Status.TheVariants as ended
 abbrev pub takes_first : Option Command → Bool
 takes_first (Some (command.Export export)) = true
 takes_first (Some (command.Ask settings)) = true
+takes_first (Some (command.Serve serve)) = true
+takes_first (Some (command.Shorten settings)) = true
 takes_first _ = false
 
 -- One reply for each line, from nothing on, by a server to which nobody else speaks: by a lawful history of only its own events,
@@ -159,7 +166,30 @@ module _ (L : Type 0) {S K : Type 0} (from : source.Ghosts S) (onto : sink.Ghost
   ExportsFor words read read_now written written_now status = (asked : Export) → command_of words ≡ Some (command.Export asked) → ExportsFile asked read read_now written written_now status
 
 module _ {S K : Type 0} (from : source.Ghosts S) (onto : sink.Ghosts K) where
-  -- if the arguments ask for a command other than `listen`
+  -- A log was taken, and continued by the lines of the changes that were accepted then; or nothing was written. A line is
+  -- refused only if a log may not have it there.
+  abbrev pub Logs : Settings → S → S → K → K → Status → Type 0
+  Logs set read read_now written written_now ended.Done = TookLog from onto set read read_now written written_now (λ mended before. ContinuesWhole onto set mended before written written_now)
+  Logs set read read_now written written_now ended.DoorsFault = TookLog from onto set read read_now written written_now (λ mended before. ContinuesWhole onto set mended before written written_now ⊎ (written_now ≡ written))
+  Logs set read read_now written written_now ended.WriteFault = TookLog from onto set read read_now written written_now (λ mended before. ContinuesBroken onto set mended before written written_now)
+  Logs set read read_now written written_now ended.ReadFault = (written_now ≡ written) × Rose (from.faults read) (from.faults read_now)
+  Logs set read read_now written written_now ended.LineRefused = ReadsNone from set read read_now × (written_now ≡ written)
+  Logs set read read_now written written_now ended.Spent = ReadsMost from set read read_now × (written_now ≡ written)
+  Logs set read read_now written written_now ended.Memory = Unit {0}
+  Logs set read read_now written written_now _ = ⊥
+
+  -- if the arguments ask for it
+  abbrev pub LogsFor : List (List ℕ) → S → S → K → K → Status → Type 0
+  LogsFor words read read_now written written_now status = (asked : Listen) → command_of words ≡ Some (command.Serve asked) → Logs asked.settings read read_now written written_now status
+
+  -- a log was shortened, unless memory is refused
+  abbrev pub ShortensLog : Settings → S → S → K → K → Status → Type 0
+  ShortensLog set read read_now written written_now status = status ≢ ended.Memory → (by : Shortened) × (status ≡ status_of_shortened by) × Shortens from onto set read read_now written written_now by
+
+  abbrev pub ShortensFor : List (List ℕ) → S → S → K → K → Status → Type 0
+  ShortensFor words read read_now written written_now status = (settings : Settings) → command_of words ≡ Some (command.Shorten settings) → ShortensLog settings read read_now written written_now status
+
+  -- if the arguments ask for a command other than `listen` and `serve`
   abbrev pub EndsFor : List (List ℕ) → Status → S → S → K → K → Type 0
   EndsFor words status read read_now written written_now = command_of words ≢ None → connections_of words ≡ None → Ends from onto status read read_now written written_now
 

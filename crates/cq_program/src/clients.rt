@@ -9,6 +9,7 @@ use cq_base::{Counters, Memory, Settings};
 use cq_chain::Pass;
 use cq_io::{Doors, Failed, Gate, Sink, Source};
 use cq_listen::{Floor, Served, serve};
+use cq_session::NoLog;
 use cq_shared::Shared;
 use cq_words::Listen;
 use cq_work::Work;
@@ -57,6 +58,7 @@ fn serve_clients<
         settings: &settings,
         counters: &counters,
         hub: &hub,
+        keeper: &NoLog,
         gate: host.gate,
     };
     serve(host.rt, &floor, pass, doors, workers, sessions)

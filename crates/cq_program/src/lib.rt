@@ -5,6 +5,7 @@
 mod clients;
 mod host;
 mod laws;
+mod logged;
 mod program;
 mod status;
 mod workers;

@@ -2,7 +2,7 @@ ghost use Rattle.std.specs.Prelude.{◌≡◌, ◌↔◌, ◌≤◌, true, false
 ghost use Rattle.cq_base.specs.Settings.{IsInRange};
 ghost use Rattle.cq_tokask.specs.Kept.{TakesNoLine};
 ghost use Rattle.cq_program.specs.Statuses.{Ends, EndsUnread};
-ghost use Rattle.cq_program.specs.Top.{AsksFile, AsksFor, Drives, DrivesFor, EndsFor, ExportsFile, ExportsFor, ListensFor, MakesFor, MakesLine, Runs, RunsAsked, RunsFor, ServesFor, TakesNoLineFor, takes_first};
+ghost use Rattle.cq_program.specs.Top.{AsksFile, AsksFor, Drives, DrivesFor, EndsFor, ExportsFile, ExportsFor, ListensFor, LogsFor, MakesFor, MakesLine, Runs, RunsAsked, RunsFor, ServesFor, ShortensFor, TakesNoLineFor, takes_first};
 ghost use Rattle.cq_names.specs.Names.{is_project};
 ghost use Rattle.cq_program.specs.declared.status.Status.TheVariants as ended;
 ghost use Rattle.cq_words.specs.Command.{command_of, connections_of};
@@ -12,6 +12,7 @@ ghost use Rattle.cq_words.specs.declared.command.Make.{Make};
 
 use crate::clients::listen;
 use crate::host::Host;
+use crate::logged::{serve_logged, shortened};
 use crate::status::{Exit, Status, status_of, status_of_asked, status_of_exported};
 use crate::workers::serve_with_workers;
 use cq_base::{Memory, Settings, Steps, Text};
@@ -21,7 +22,7 @@ use cq_hub::{Solo, SoloPass};
 use cq_io::{Doors, Failed, Gate, Sink, Source};
 use cq_lines::Lines;
 use cq_make::{Project, make};
-use cq_session::{Server, session};
+use cq_session::{NoLog, Server, session};
 use cq_talk::{talks_alone, talks_beside};
 use cq_tokask::ask;
 use cq_words::{Command, Export, Make, Run, default_settings, is_command, read_command};
@@ -59,6 +60,7 @@ fn serve<R: Threads + Sync, S: Source, K: Sink, G: Gate, L: Ledger>(
                 alloc: host.alloc,
                 keyer: &keyer,
                 hub: &hub,
+                keeper: &NoLog,
                 gate: host.gate,
             };
             let end = session(&server, &mut pass, &mut lines, source, sink, steps);
@@ -189,14 +191,16 @@ fn exported<S: Source, K: Sink, L: Ledger>(
 /// The whole program: what the arguments ask for, over these ends, and how that ended. `run` answers the lines of the source
 /// into the sink; `listen` the lines of each connection into it; `drive` steps a core by the lines of the source, and writes
 /// their outcomes; `make` writes one line; `export` writes the token file of the version that the changes of the source make;
-/// `ask` answers the lines after the token file that the source begins with.
-/// Threads are started only for the workers of `run` and `listen` and for the sessions of `listen`, and each is joined before
-/// this returns; the gate is then called from them too. The reads of the sessions of `listen` are counted on a ledger of their
-/// own.
+/// `ask` answers the lines after the token file that the source begins with. `serve` takes a log from the source, answers the
+/// lines of each connection into it, and continues the log in the sink; `shorten` writes the lines of a log that its last
+/// version needs.
+/// Threads are started only for the workers of `run`, `listen` and `serve` and for the sessions of the last two, and each is
+/// joined before this returns; the gate is then called from them too. The reads of these sessions are counted on a ledger of
+/// their own.
 pub fn top<
     Q: Threads + Wait + Sync,
     S: Source,
-    K: Sink,
+    K: Sink + Send,
     I: Source + Send + Drop,
     O: Sink + Send + Drop,
     D: Doors<In = I, Out = O>,
@@ -222,11 +226,11 @@ pub fn top<
     ensures untaken { result.status ≡ ended.Memory
         → takes_first (command_of words.now) ≡ false → source.new ≡ source.old }
 
-    // What the status says of the source and the sink, for each command but `listen`.
+    // What the status says of the source and the sink, for each command but `listen` and `serve`.
     ensures ends { EndsFor S.Source K.Sink words.now result.status
         source.old source.new sink.old sink.new }
 
-    // The doors are only for `listen`, and the source and the sink are for the others.
+    // The doors are only for `listen` and `serve`, and the source and the sink are for all but `listen`.
     ensures closed { connections_of words.now ≡ None → doors.new ≡ doors.old }
     ensures aside { (asked : Listen) → command_of words.now ≡ Some (command.Listen asked)
         → (source.new ≡ source.old) × (sink.new ≡ sink.old) }
@@ -235,7 +239,7 @@ pub fn top<
         (D.faults doors.old) (D.faults doors.new) result.status }
 
     // `listen` serves connections under the settings in its arguments, with as many workers and as many sessions as they ask
-    // for, unless memory is refused or the address can't be bound. No other command serves any.
+    // for, unless memory is refused or the address can't be bound. No other command but `serve` serves any.
     ensures served { ServesFor words.now (D.bound doors.old) (D.bound doors.new)
         result.status result.served }
     ensures unserved { connections_of words.now ≡ None → result.served ≡ None }
@@ -260,6 +264,14 @@ pub fn top<
     ensures exports { ExportsFor L S.Source K.Sink words.now
         source.old source.new sink.old sink.new result.status }
 
+    // That of `serve` is that of taking a log from the source and continuing it in the sink.
+    ensures logs { LogsFor S.Source K.Sink words.now
+        source.old source.new sink.old sink.new result.status }
+
+    // That of `shorten` is that of reading a log from the source, and writing the lines that its last version needs.
+    ensures shortens { ShortensFor S.Source K.Sink words.now
+        source.old source.new sink.old sink.new result.status }
+
     // That of `make` is that of sending the line of the project, and nothing is read.
     ensures makes { MakesFor K.Sink words.now sink.old sink.new result.status }
     ensures unread { (asked : Make) → command_of words.now ≡ Some (command.Make asked)
@@ -278,6 +290,7 @@ pub fn top<
             served: None,
         },
         Ok(Some(Command::Listen(asked))) => listen(&host, asked, doors),
+        Ok(Some(Command::Serve(asked))) => serve_logged(&host, asked, source, sink, doors),
         Ok(Some(Command::Drive(settings))) => Exit {
             status: driven(rt, alloc, &settings, source, sink, steps),
             served: None,
@@ -292,6 +305,10 @@ pub fn top<
         },
         Ok(Some(Command::Ask(settings))) => Exit {
             status: kept(rt, alloc, &settings, source, sink, steps),
+            served: None,
+        },
+        Ok(Some(Command::Shorten(settings))) => Exit {
+            status: shortened(alloc, &settings, source, sink),
             served: None,
         },
         Ok(None) => unreachable!(),

@@ -5,6 +5,7 @@ ghost use Rattle.cq_program.specs.declared.status.Status.TheVariants as ended;
 use cq_export::Exported;
 use cq_lines::End;
 use cq_listen::Served;
+use cq_shorten::Shortened;
 use cq_tokask::Asked;
 
 /// How a command ended.
@@ -18,8 +19,8 @@ pub enum Status {
     ReadFault,
     /// A write failed.
     WriteFault,
-    /// Memory was refused before a byte was written, a line was read or a connection was taken. `export` and `ask` may have
-    /// taken bytes by then.
+    /// Memory was refused before a byte was written, a line was read or a connection was taken. `export`, `ask`, `serve` and
+    /// `shorten` may have taken bytes by then, and `serve` may have mended the end of its log.
     Memory,
     /// A call of the doors failed.
     DoorsFault,
@@ -95,6 +96,17 @@ pub(crate) fn status_of_exported(exported: Exported) -> Status
         Exported::Refused => Status::LineRefused,
         Exported::TooLarge => Status::TooLarge,
         Exported::Ended(end) => status_of(end),
+    }
+}
+
+/// The status of the shortening of a log that ended so.
+pub(crate) fn status_of_shortened(shortened: Shortened) -> Status
+    ensures status { result ≡ spec.status_of_shortened shortened }
+    ensures some { result ≢ ended.Memory }
+{
+    match shortened {
+        Shortened::Refused => Status::LineRefused,
+        Shortened::Ended(end) => status_of(end),
     }
 }
 

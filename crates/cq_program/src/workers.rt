@@ -11,7 +11,7 @@ use cq_beside::{Crew, serve_one};
 use cq_chain::Pass;
 use cq_io::{Gate, Sink, Source};
 use cq_lines::Lines;
-use cq_session::Server;
+use cq_session::{NoLog, Server};
 use cq_shared::Shared;
 use cq_words::Run;
 use cq_work::{Keyer, Work};
@@ -53,6 +53,7 @@ pub(crate) fn serve_with_workers<
                 alloc: host.alloc,
                 keyer: &keyer,
                 hub: &hub,
+                keeper: &NoLog,
                 gate: host.gate,
             };
             let crew = Crew { workers, pass };

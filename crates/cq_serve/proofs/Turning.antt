@@ -123,6 +123,14 @@ module _ {H W P : Type 0} (of : Ghosts H W P) (hub : H) (set : Settings) (lawful
           subst (λ change. IsWorkFor IsWork change work) (sym (doing.accepted_stays (of.callers hub) took.mid (event.Took c r ∷ []) r there).1)
           (job_work IsWork (state (of.callers hub) took.mid) r j work same job is)
 
+  -- the caller asked
+  pub asked_only : (q : P) (Says : List Event → Type 0) (ask : Calls of.Stands of.alone Never c hub q h (event.Ask c ∷ []) Says) → Asks of hub c q h
+  asked_only q Says ask = record {
+    after = ask.mid ++ event.Ask c ∷ [];
+    stands = ask.stands;
+    grows = grows_may of.alone c IsPublication h (ask.mid ++ event.Ask c ∷ []) (event.Ask c ∷ []) (grows_event of.alone c Never h ask.mid (event.Ask c) refl ask.others);
+  }
+
   -- the caller asked, and then something may have been published
   pub asked_then : (b q : P) (Says Then : List Event → Type 0) (ask : Calls of.Stands of.alone Never c hub b h (event.Ask c ∷ []) Says) → Calls of.Stands of.alone IsPublication c hub q (ask.mid ++ event.Ask c ∷ []) [] Then → Asks of hub c q h
   asked_then b q Says Then ask more = record {

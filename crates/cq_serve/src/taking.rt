@@ -8,20 +8,24 @@ use cq_base::Memory;
 use cq_board::Finished;
 use cq_hub::Hub;
 use cq_io::Gate;
-use cq_session::Server;
+use cq_session::{Keeper, Server};
 use cq_work::{Work, work_for};
 use std::sync::ledger::Ledger;
 
-// Publishes what is done, if there is memory for it.
-fn publish_done<R, L: Ledger, H: Hub<Work<L>>, G: Gate>(
-    server: &Server<'_, R, H, G>,
+// Publishes what is done, if there is memory for it. Once a line could not be kept, it only asks: a version may then have a
+// change whose line is not kept.
+fn publish_done<R, L: Ledger, H: Hub<Work<L>>, P: Keeper<Work<L>, H>, G: Gate>(
+    server: &Server<'_, R, H, P, G>,
     pass: &mut H::Pass,
 )
     requires stands { IsPassOf H.Stands server.now.hub.now pass.old }
     ensures asks { HasAsked H.Hub server.now.hub.now pass.old pass.new }
     ensures asked { H.asked pass.new ≡ H.asked pass.old }
 {
-    let asked = server.hub.ask(pass);
+    let Some(asked) = server.keeper.ask(server.hub, pass) else {
+        let _asked = server.hub.ask(pass);
+        return;
+    };
     match server
         .hub
         .advance(server.alloc, asked.done, server.gate, pass)
@@ -34,8 +38,8 @@ fn publish_done<R, L: Ledger, H: Hub<Work<L>>, G: Gate>(
 /// A worker's turn: takes the first change that is neither done nor taken, makes its work, and publishes what is done
 /// then, if there is memory for that. If there is none to make the work, the change is given back. It costs what
 /// `work_of` does for the change's text, and what it costs to apply the works that are done.
-pub fn turn<R, L: Ledger, H: Hub<Work<L>>, G: Gate>(
-    server: &Server<'_, R, H, G>,
+pub fn turn<R, L: Ledger, H: Hub<Work<L>>, P: Keeper<Work<L>, H>, G: Gate>(
+    server: &Server<'_, R, H, P, G>,
     pass: &mut H::Pass,
 ) -> Turn
     requires in_range { IsInRange server.now.keyer.now.settings }

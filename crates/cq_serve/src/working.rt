@@ -8,7 +8,7 @@ use crate::bell::Bell;
 use crate::taking::turn;
 use cq_hub::Hub;
 use cq_io::Gate;
-use cq_session::Server;
+use cq_session::{Keeper, Server};
 use cq_work::Work;
 use std::sync::Wait;
 use std::sync::ledger::Ledger;
@@ -26,8 +26,8 @@ fn rest<Q: Wait>(rt: &Q, bell: &Bell, heard: u64, came: Turn) {
 
 /// A worker: takes turns until the bell's end. If there is no change to take, or no memory, it sleeps until the bell
 /// rings.
-pub fn work<Q: Wait, L: Ledger, H: Hub<Work<L>>, G: Gate>(
-    server: &Server<'_, Q, H, G>,
+pub fn work<Q: Wait, L: Ledger, H: Hub<Work<L>>, P: Keeper<Work<L>, H>, G: Gate>(
+    server: &Server<'_, Q, H, P, G>,
     pass: H::Pass,
     bell: &Bell,
 ) -> H::Pass

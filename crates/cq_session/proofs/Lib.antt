@@ -3,9 +3,11 @@ pub mod ProjectEntries
 pub mod Answered
 pub mod Spending
 pub mod LineCosts
+pub mod Waited
 pub mod ManyWorks
 pub mod OneView
 pub mod InView
 pub mod QueryLeads
 pub mod Talking
+pub mod Clients
 pub mod Turns

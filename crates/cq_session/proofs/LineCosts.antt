@@ -1,6 +1,6 @@
 -- What the views cost that were opened for one line, by the row of its answer.
-use Rattle.std.proofs.Common.{◌≡◌, ℕ, ◌<◌, ◌≤◌, Bool, List, [], ◌∷◌, ◌++◌, length, map, Option, Some, None, Ok, Err, refl, sym, ap, ◌∙◌, subst, inl, inr}
-use Rattle.std.specs.Prelude.{filter_map, IfSome}
+use Rattle.std.proofs.Common.{◌≡◌, ℕ, ◌<◌, ◌≤◌, Bool, true, false, cond, List, [], ◌∷◌, ◌++◌, length, map, Option, Some, None, Ok, Err, refl, sym, ap, ◌∙◌, subst, inl, inr, append_assoc}
+use Rattle.std.specs.Prelude.{◌==◌, filter_map, IfSome}
 use Rattle.std.specs.List.{AllByRecursion}
 use Rattle.std.proofs.lemmas.List.Elements.{filter_map-append}
 use Rattle.cq_answer.specs.declared.part.Part.{Part}
@@ -13,9 +13,9 @@ use Rattle.cq_base.specs.declared.settings.Settings.{Settings}
 use Rattle.cq_history.specs.declared.event.Event.{Event}
 use Rattle.cq_history.specs.declared.event.Event.TheVariants.{Accept, Ask, Done}
 use Rattle.cq_history.specs.Files.{conditions_at}
-use Rattle.cq_history.specs.State.{accepted}
+use Rattle.cq_history.specs.State.{accepted, own}
+use Rattle.cq_history.proofs.Prefixes.{own-append}
 use Rattle.cq_hub.specs.Hubs.{Grows, Never}
-use Rattle.cq_hub.proofs.Growing.{grows_event}
 use Rattle.cq_reply.specs.declared.reply.Reply.{Reply}
 use Rattle.cq_reply.specs.declared.reply.Reply.TheVariants as reply
 use Rattle.cq_request.specs.declared.request.Kind.{Kind}
@@ -24,7 +24,7 @@ use Rattle.cq_request.specs.declared.request.Query.{Query}
 use Rattle.cq_request.specs.declared.request.Request.TheVariants as request
 use Rattle.cq_lines.specs.Pieces.{line_limit}
 use Rattle.cq_talk.specs.Said.{Said, said, TooLong, Read}
-use Rattle.cq_talk.specs.Talk.{Asks, IsChanged, IsServed, IsShown, Waits, viewed}
+use Rattle.cq_talk.specs.Talk.{Asks, IsChangedBy, IsServed, IsShown, Waits, viewed}
 use Rattle.cq_talk.proofs.Saying.{said_long}
 use Rattle.cq_talk.proofs.Served.{asks_grow, served_grows}
 use Rattle.cq_talk.proofs.Unmade.{IsUnmade}
@@ -55,6 +55,13 @@ opened_given_up : (c : ℕ) (q : Query) (view : Option ℕ) → filter_map opene
 opened_given_up c q None = refl
 opened_given_up c q (Some v) = refl
 
+accepting_opens_none : (c by : ℕ) (change : Change) → filter_map opened_by (own c (Accept by change ∷ [])) ≡ []
+accepting_opens_none c by change = go (c == by)
+  where
+    go : (b : Bool) → filter_map opened_by (cond b (Accept by change ∷ []) []) ≡ []
+    go true = refl
+    go false = refl
+
 all_given_up : (h : List Event) (q : Query) (view : Option ℕ) → IfSome view (λ v. v ≤ length (accepted h)) → AllByRecursion (IsWithin h) (given_up_in q view)
 all_given_up h q None within = tt
 all_given_up h q (Some v) within = (within, tt)
@@ -80,11 +87,17 @@ module _ (set : Settings) (alone : Type 0) (c : ℕ) where
     pub spends_asking : Asks alone c h later → Spends Are set c h (counted reads reads asked asked_now) later
     spends_asking asks = spends_grown Are Never h later (Ask c ∷ []) [] _ (asks_grow alone c h later asks) none refl tt (costs_none set (accepted later) reads asked asked_now same)
 
-    pub spends_changing : (callers : ℕ) (change : Change) (r : Reply) → IsChanged set callers alone c h change r later → Spends Are set c h (counted reads reads asked asked_now) later
-    spends_changing callers change r (inl is) =
-        spends_grown Are Never h later (Accept c change ∷ []) [] _
-        (subst (λ g. Grows alone Never c h g (Accept c change ∷ [])) (sym is.accepts) (grows_event alone c Never h is.mid (Accept c change) refl is.waits)) none refl tt (costs_none set (accepted later) reads asked asked_now same)
-    spends_changing callers change r (inr is) = spends_waiting is.waits
+    pub spends_changing : (callers by : ℕ) (change : Change) (r : Reply) → IsChangedBy set callers alone c by h change r later → Spends Are set c h (counted reads reads asked asked_now) later
+    spends_changing callers by change r (inl is) = record {
+      more = is.waits.more ++ Accept by change ∷ [];
+      after_is = is.accepts ∙ (ap (λ l. l ++ Accept by change ∷ []) is.waits.after_is ∙ append_assoc h is.waits.more (Accept by change ∷ []));
+      viewings = [];
+      are = none;
+      opened = ap (filter_map opened_by) (own-append c is.waits.more (Accept by change ∷ []) ∙ ap (λ l. l ++ own c (Accept by change ∷ [])) is.waits.own_is) ∙ accepting_opens_none c by change;
+      within = tt;
+      costs = costs_none set (accepted later) reads asked asked_now same;
+    }
+    spends_changing callers by change r (inr is) = spends_waiting is.waits
 
 module _ (set : Settings) (callers : ℕ) (alone : Type 0) (c seen : ℕ) (q : Query) (h later : List Event) where
   -- a query that was answered by a view

@@ -3,6 +3,9 @@ pub mod Moving
 pub mod Projects
 pub mod Costs
 pub mod Viewing
+pub mod Clients
 pub mod Turn
 pub mod Passes
+pub mod Keeping
+pub mod Overs
 pub mod Serving

@@ -1,5 +1,5 @@
 -- Where the parts of a line bring the pass of a caller, in the words of its hub.
-use Rattle.std.specs.Prelude.{◌≤◌, ℕ, List, [], ◌∷◌, length, Option, Result, IsSome, Ok as ok}
+use Rattle.std.specs.Prelude.{◌≤◌, ℕ, List, [], ◌∷◌, length, Result, IsSome, Ok as ok}
 use Rattle.std.specs.Result.{is_ok}
 use Rattle.cq_answer.specs.Reply.{IsReply}
 use Rattle.cq_session.specs.Moves.{Moves}
@@ -17,7 +17,6 @@ use Rattle.cq_io.specs.declared.sink.Sink as sink
 use Rattle.cq_io.specs.declared.source.Source as source
 use Rattle.cq_lines.specs.Serving.{ServesLines}
 use Rattle.cq_lines.specs.declared.ending.End.{End}
-use Rattle.cq_reply.specs.declared.line.Line.{Line}
 use Rattle.cq_reply.specs.Lines.{bytes_of}
 use Rattle.cq_reply.specs.Written.{line_of}
 use Rattle.cq_reply.specs.declared.reply.Reply.{Reply}
@@ -29,10 +28,11 @@ use Rattle.cq_request.specs.declared.request.Request.{Request}
 use Rattle.cq_request.specs.declared.request.Request.TheVariants as request
 use Rattle.cq_talk.specs.Said.{Read}
 use Rattle.cq_talk.specs.Steps.{Always, Helps, Led, MayLead}
-use Rattle.cq_talk.specs.Talk.{IsAnswer, IsAnswered, IsChanged, IsGivenUp, IsSwept, Tells, Waits}
+use Rattle.cq_talk.specs.Talk.{IsAnswerBy, IsAnswered, IsChangedBy, IsGivenUp, IsSwept, Tells, Waits}
 use Rattle.cq_session.specs.Costs.{AtCost, Costs, Counts, counted}
 use Rattle.cq_session.specs.Turn as turn
 use Rattle.cq_session.specs.Viewing.{InView, ShowsAt, ViewsOrNot}
+use Rattle.cq_session.specs.declared.telling.ReplyLine.{ReplyLine}
 
 module _ {H W P : Type 0} (of : Ghosts H W P) (hub : H) where
   -- ---- a view that is open, where a text has these works
@@ -113,9 +113,9 @@ module _ {H W P : Type 0} (of : Ghosts H W P) (hub : H) where
     abbrev pub HasWaited : Type 0
     HasWaited = Led of.Stands (of.callers hub) hub old new Always (λ c h. Waits of.alone c h)
 
-    -- the change has this reply
-    abbrev pub HasChanged : Change → Reply → Type 0
-    HasChanged change r = Led of.Stands (of.callers hub) hub old new Always (λ c h. IsChanged (of.settings hub) (of.callers hub) of.alone c h change r)
+    -- the change has this reply; by whom it is accepted, the acceptor of the caller's number says
+    abbrev pub HasChanged : (ℕ → ℕ) → Change → Reply → Type 0
+    HasChanged acceptor change r = Led of.Stands (of.callers hub) hub old new Always (λ c h. IsChangedBy (of.settings hub) (of.callers hub) of.alone c (acceptor c) h change r)
 
     -- the reply tells the state
     abbrev pub HasTold : Reply → Type 0
@@ -136,9 +136,9 @@ module _ {H W P : Type 0} (of : Ghosts H W P) (hub : H) where
       HasViewedOrNot to q = Led of.Stands (of.callers hub) hub old new Always (λ c h. ViewsOrNot (of.settings hub) of.alone c to q spent h)
 
       -- under settings that are the hub's, the lines of the source were served
-      abbrev pub HasServed : {S K : Type 0} → source.Ghosts S → sink.Ghosts K → Settings → ℕ → S → S → K → K → End → Type 0
-      HasServed from onto set limit read read_now written written_now by =
-          Led of.Stands (of.callers hub) hub old new Always (λ c h after. ServesLines from onto line_of (turn.CountedTalk set (of.callers hub) of.alone c h spent after) limit read read_now written written_now by)
+      abbrev pub HasServed : {S K : Type 0} → (ℕ → ℕ) → source.Ghosts S → sink.Ghosts K → Settings → ℕ → S → S → K → K → End → Type 0
+      HasServed acceptor from onto set limit read read_now written written_now by =
+          Led of.Stands (of.callers hub) hub old new Always (λ c h after. ServesLines from onto line_of (turn.CountedTalkBy set (of.callers hub) of.alone c (acceptor c) h spent after) limit read read_now written written_now by)
 
       -- where each number that was seen is that of an accepted change
       module _ (seen : ℕ) where
@@ -150,8 +150,8 @@ module _ {H W P : Type 0} (of : Ghosts H W P) (hub : H) where
         HasAnswered q r = LedBy (λ c h. AtCost (of.settings hub) c (Read (ok (request.Query q))) r spent h (IsAnswered (of.settings hub) (of.callers hub) of.alone c seen h q r))
 
         -- what a line says has this reply
-        abbrev pub HasReplied : Result Request Refusal → Reply → Type 0
-        HasReplied says r = LedBy (λ c h. AtCost (of.settings hub) c (Read says) r spent h (IsAnswer (of.settings hub) (of.callers hub) of.alone c seen h (Read says) r))
+        abbrev pub HasReplied : (ℕ → ℕ) → Result Request Refusal → Reply → Type 0
+        HasReplied acceptor says r = LedBy (λ c h. AtCost (of.settings hub) c (Read says) r spent h (IsAnswerBy (of.settings hub) (of.callers hub) of.alone c (acceptor c) seen h (Read says) r))
 
         -- memory was refused, and what was done is a beginning of what the line does
         abbrev pub HasGivenUp : Result Request Refusal → Type 0
@@ -161,16 +161,12 @@ module _ {H W P : Type 0} (of : Ghosts H W P) (hub : H) where
         abbrev pub GivesUp : Query → Type 0
         GivesUp q = HasGivenUp (ok (request.Query q))
 
-        abbrev pub Replies : Settings → List ℕ → Reply → Type 0
-        Replies set line r = HasReplied (line_says set.chunk line) r
+        abbrev pub Replies : (ℕ → ℕ) → Settings → List ℕ → Reply → Type 0
+        Replies acceptor set line r = HasReplied acceptor (line_says set.chunk line) r
 
         abbrev pub Begins : Settings → List ℕ → Type 0
         Begins set line = HasGivenUp (line_says set.chunk line)
 
         -- it is the line of its reply, with the number that the reply names
-        abbrev pub HasLine : Settings → List ℕ → Line × ℕ → Type 0
-        HasLine set line told = LedBy (λ c h. turn.Tells (of.settings hub) (of.callers hub) of.alone c seen h spent (Read (line_says set.chunk line)) (bytes_of told.0) told.1)
-
-        -- under settings that are the hub's, the reply to the line is sent, and what it names is seen
-        abbrev pub HasSentLine : {E : Type 0} → Settings → List ℕ → Option (List ℕ) → Option (List ℕ) → Result (Unit {0}) E → ℕ → Type 0
-        HasSentLine set line before written_now result seen_now = LedBy (λ c h. turn.Turns set (of.callers hub) of.alone c seen h spent line before written_now result seen_now)
+        abbrev pub HasLine : (ℕ → ℕ) → Settings → List ℕ → ReplyLine → Type 0
+        HasLine acceptor set line told = LedBy (λ c h. turn.Tells (of.settings hub) (of.callers hub) of.alone c (acceptor c) seen h spent (Read (line_says set.chunk line)) (bytes_of told.line) told.number told.known)

@@ -12,8 +12,8 @@ use cq_work::{Work, work_for};
 use std::sync::ledger::Ledger;
 
 // Does the work of a change unless it is done already.
-fn help_one<R, L: Ledger, H: Hub<Work<L>>, G: Gate>(
-    server: &Server<'_, R, H, G>,
+fn help_one<R, L: Ledger, H: Hub<Work<L>>, P, G: Gate>(
+    server: &Server<'_, R, H, P, G>,
     change: u64,
     pass: &mut H::Pass,
 ) -> Result<(), Memory>
@@ -46,8 +46,8 @@ const BLOCK: u64 = 64;
 
 // Does the works of the changes after the first `done`, whose works are done, up to the change with the number `to`, the
 // last one first.
-fn help_down<R, L: Ledger, H: Hub<Work<L>>, G: Gate>(
-    server: &Server<'_, R, H, G>,
+fn help_down<R, L: Ledger, H: Hub<Work<L>>, P, G: Gate>(
+    server: &Server<'_, R, H, P, G>,
     done: u64,
     to: u64,
     pass: &mut H::Pass,
@@ -74,8 +74,8 @@ fn help_down<R, L: Ledger, H: Hub<Work<L>>, G: Gate>(
 /// Does the works of the changes after the first `done`, whose works are done, up to the change with the number `to`. Each
 /// costs what `work_of` does, unless it is done by then. Of some changes in a row the last one is done first: workers
 /// begin with the first one, so few are done twice.
-pub(crate) fn help<R, L: Ledger, H: Hub<Work<L>>, G: Gate>(
-    server: &Server<'_, R, H, G>,
+pub(crate) fn help<R, L: Ledger, H: Hub<Work<L>>, P, G: Gate>(
+    server: &Server<'_, R, H, P, G>,
     done: u64,
     to: u64,
     pass: &mut H::Pass,

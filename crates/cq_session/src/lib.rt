@@ -12,14 +12,19 @@
 mod answering;
 mod buckets;
 mod helping;
+mod keeper;
+mod met;
 mod project;
 mod server;
 mod serving;
+mod stop;
 mod telling;
 mod viewing;
 
 pub use answering::query_reply;
 pub use buckets::PassBuckets;
+pub use keeper::{Keeper, NoLog};
 pub use project::keep;
 pub use server::Server;
-pub use serving::session;
+pub use serving::{kept_session, session};
+pub use stop::Stop;

@@ -21,8 +21,8 @@ use std::sync::ledger::Ledger;
 use std::thread::Threads;
 
 // The reply to a query in a view that the pass has open.
-fn reply_in<R: Threads + Sync, L: Ledger, H: Hub<Work<L>>, G: Gate>(
-    server: &Server<'_, R, H, G>,
+fn reply_in<R: Threads + Sync, L: Ledger, H: Hub<Work<L>>, P, G: Gate>(
+    server: &Server<'_, R, H, P, G>,
     view: &View<Work<L>>,
     query: &Query,
     pass: &mut H::Pass,
@@ -86,8 +86,8 @@ fn sweep_behind<W: Indexed, H: Hub<W>>(alloc: Global, hub: &H, pass: &mut H::Pas
 
 /// The reply to a query at a version that is not below `to`, up to which all changes are done. A view of it is opened
 /// for the reply, and is shut again however that ends. After a reply the hub is swept.
-pub(crate) fn view_reply<R: Threads + Sync, L: Ledger, H: Hub<Work<L>>, G: Gate>(
-    server: &Server<'_, R, H, G>,
+pub(crate) fn view_reply<R: Threads + Sync, L: Ledger, H: Hub<Work<L>>, P, G: Gate>(
+    server: &Server<'_, R, H, P, G>,
     query: &Query,
     to: u64,
     pass: &mut H::Pass,

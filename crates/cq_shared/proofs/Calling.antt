@@ -1,5 +1,5 @@
 -- What a call does to what its pass has seen.
-use Rattle.std.proofs.Common.{◌≡◌, ◌≢◌, ℕ, ◌+◌, ◌<◌, ◌≤◌, cond, List, [], ◌∷◌, ◌++◌, length, drop, Option, Some, None, Result, Ok, Err, refl, sym, ap, ◌∙◌, subst, arith, append-nil, length-append, ne_eqb}
+use Rattle.std.proofs.Common.{◌≡◌, ◌≢◌, ℕ, ◌+◌, ◌<◌, ◌≤◌, true, cond, List, [], ◌∷◌, ◌++◌, length, drop, Option, Some, None, Result, Ok, Err, refl, sym, ap, ◌∙◌, subst, arith, append-nil, length-append, ne_eqb}
 use Rattle.std.specs.Prelude.{◌↔◌, IfOk, IfSome, IsNone, MatchOption, option_to_list, slice_index}
 use Rattle.std.specs.List.{AllByRecursion}
 use mathlib.Core.List.{IsPrefix}
@@ -47,17 +47,17 @@ same_board about log old new is same = subst (λ l. IsBoard about l new) (sym (a
 
 pub may_add : (cells : BoardCells) (p : BoardPass) (d : Deed) → ((s : ℕ) → s < cells.about.settings.shards → asks_of d ≤ least p s) → IfSome (event_of (by_of p) d) (MayAdd cells p)
 may_add cells p deed.Nothing reach = tt
-may_add cells p deed.Ask reach = record { maker = refl; applied = reach }
-may_add cells p (deed.Took r) reach = record { maker = refl; applied = reach }
-may_add cells p (deed.Back r) reach = record { maker = refl; applied = reach }
-may_add cells p (deed.Done r) reach = record { maker = refl; applied = reach }
-may_add cells p (deed.Publish v) reach = record { maker = tt; applied = reach }
-may_add cells p (deed.Open v) reach = record { maker = refl; applied = reach }
-may_add cells p deed.Shut reach = record { maker = refl; applied = reach }
-may_add cells p (deed.Floor f) reach = record { maker = tt; applied = reach }
+may_add cells p deed.Ask reach = record { maker = refl; accepts = λ only. (tt, tt); applied = reach }
+may_add cells p (deed.Took r) reach = record { maker = refl; accepts = λ only. (tt, tt); applied = reach }
+may_add cells p (deed.Back r) reach = record { maker = refl; accepts = λ only. (tt, tt); applied = reach }
+may_add cells p (deed.Done r) reach = record { maker = refl; accepts = λ only. (tt, tt); applied = reach }
+may_add cells p (deed.Publish v) reach = record { maker = tt; accepts = λ only. (tt, tt); applied = reach }
+may_add cells p (deed.Open v) reach = record { maker = refl; accepts = λ only. (tt, tt); applied = reach }
+may_add cells p deed.Shut reach = record { maker = refl; accepts = λ only. (tt, tt); applied = reach }
+may_add cells p (deed.Floor f) reach = record { maker = tt; accepts = λ only. (tt, tt); applied = reach }
 
-pub may_accept : (cells : BoardCells) (p : BoardPass) (change : Change) → MayAdd cells p (Accept (by_of p) change)
-may_accept cells p change = record { maker = refl; applied = λ s near. omega arith }
+pub may_accept : (cells : BoardCells) (p : BoardPass) (change : Change) → (cells.about.first_only ≡ true → by_of p ≡ 0) → MayAdd cells p (Accept (by_of p) change)
+may_accept cells p change may = record { maker = refl; accepts = λ only. (may only, tt); applied = λ s near. omega arith }
 
 -- ---- the events of a caller that ended
 

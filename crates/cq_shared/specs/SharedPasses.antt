@@ -1,5 +1,5 @@
 -- What a shared hub and its passes are, and for which histories a pass stands.
-use Rattle.std.proofs.Common.{◌≡◌, ℕ, ◌<◌, ◌≤◌, List, drop, subst}
+use Rattle.std.proofs.Common.{◌≡◌, ℕ, ◌<◌, ◌≤◌, true, List, drop, subst}
 use Rattle.std.specs.Prelude.{All}
 use Rattle.cq_base.specs.declared.settings.Settings.{Settings}
 use Rattle.cq_base.specs.Changes.{IsSoundChange}
@@ -27,6 +27,14 @@ module _ {W R : Type 0} where
   -- how many callers its history may have
   abbrev pub callers_of : Shared W R → ℕ
   callers_of hub = hub.cells.about.callers
+
+  -- the pass is that of the first caller, or each caller may accept changes
+  abbrev pub MayAccept : Shared W R → BoardPass → Type 0
+  MayAccept hub p = hub.cells.about.first_only ≡ true → by_of p ≡ 0
+
+  -- only the first caller may
+  abbrev pub OnlyFirstAccepts : Shared W R → Type 0
+  OnlyFirstAccepts hub = hub.cells.about.first_only ≡ true
 
   -- the state that a history of it leaves
   abbrev pub state_of : Shared W R → List Event → State

@@ -11,7 +11,7 @@ ghost use Rattle.cq_chain.specs.Passes as chain;
 ghost use Rattle.cq_hub.specs.Hubs.{one_more};
 ghost use Rattle.cq_shared.specs.Answers.{SeesMore, IsTold, Accepts, Refuses, Takes, FindsJob, GivesBack, HasNot, Does, FindsDone, Opens, Shuts, IsItsWork, IsViewing, Reads};
 ghost use Rattle.cq_shared.specs.Deeds.{event_of, seen_with, seen_accepting, asks_of};
-ghost use Rattle.cq_shared.specs.SharedPasses.{IsPassOf, HaveApplied, cells_of, about_of, settings_of, state_of};
+ghost use Rattle.cq_shared.specs.SharedPasses.{IsPassOf, HaveApplied, MayAccept, cells_of, about_of, settings_of, state_of};
 
 use crate::deed::Deed;
 use crate::shared::Shared;
@@ -46,6 +46,7 @@ impl<W: Indexed, R> Shared<W, R> {
         ghost event: { Option Happened }
         requires event { event ≡ Some (happened.Accept (by_of pass.old) change.now.value) }
         requires of { chain.IsPassOf (cells_of self.now) pass.old }
+        requires may { MayAccept self.now pass.old }
         requires hand { (b : BoardState) × HasBoard pass.old b }
         requires board { IsBoard (about_of self.now)
             (seen_accepting pass.old change.now.value) board }
@@ -72,9 +73,15 @@ impl<W: Indexed, R: Wait> Shared<W, R> {
         asked
     }
 
-    /// Accepts a change, and answers its number, or the first cause against it.
-    pub fn accept(&self, alloc: Global, change: Change, pass: &mut Pass<W>) -> Result<u64, Refused>
+    // Accepts a change by a caller who may.
+    fn accept_allowed(
+        &self,
+        alloc: Global,
+        change: Change,
+        pass: &mut Pass<W>,
+    ) -> Result<u64, Refused>
         requires of { IsPassOf self.now pass.old }
+        requires may { MayAccept self.now pass.old }
         requires sound { IsSoundChange change }
         ensures accepted { IfOk result (Accepts self.now pass.old pass.new change) }
         ensures refused { IfErr result (Refuses self.now pass.old pass.new change) }
@@ -93,6 +100,28 @@ impl<W: Indexed, R: Wait> Shared<W, R> {
                 Err(cause)
             }
         }
+    }
+
+    // Whether the pass may accept changes.
+    fn may_accept(&self, pass: &Pass<W>) -> bool
+        ensures { OnTrue result (MayAccept self.now pass.now) }
+    {
+        !self.cells.first_only() || pass.by() == 0
+    }
+
+    /// Accepts a change, and answers its number, or the first cause against it. If only the first caller may accept changes,
+    /// every other caller is answered that memory is refused.
+    pub fn accept(&self, alloc: Global, change: Change, pass: &mut Pass<W>) -> Result<u64, Refused>
+        requires of { IsPassOf self.now pass.old }
+        requires sound { IsSoundChange change }
+        ensures accepted { IfOk result (Accepts self.now pass.old pass.new change) }
+        ensures refused { IfErr result (Refuses self.now pass.old pass.new change) }
+        ensures asked { pass.new.asked ≡ pass.old.asked }
+    {
+        if self.may_accept(pass) {
+            return self.accept_allowed(alloc, change, pass);
+        }
+        Err(Refused::Memory)
     }
 
     /// Gives the caller the first change that is neither done nor taken, if there is one.

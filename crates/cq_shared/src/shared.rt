@@ -1,11 +1,11 @@
 ghost use Rattle.std.specs.Prelude.{◌≡◌, ◌-◌, ◌<◌, ◌≤◌, ◌^◌, ℕ, max, [], ◌++◌, IfOk};
 ghost use Rattle.cq_cells.specs.Callers.{longer};
-ghost use Rattle.cq_cells.specs.Passes.{least, with_child, child_of};
+ghost use Rattle.cq_cells.specs.Passes.{IsSameCaller, least, with_child, child_of};
 ghost use Rattle.cq_cells.specs.Steps.{AreOneHistory};
 ghost use Rattle.cq_chain.specs.Passes.{IsOwn, HasNoneFrom};
 ghost use Rattle.cq_hub.specs.Answers.{HasViewOpen, Shuts};
 ghost use Rattle.cq_shared.specs.Answers.{HasSeenItsWork, ExtendsByDone, ExtendsWhereDone};
-ghost use Rattle.cq_shared.specs.SharedPasses.{IsPassOf, SharedStands, cells_of, settings_of, callers_of, asked_by};
+ghost use Rattle.cq_shared.specs.SharedPasses.{IsPassOf, OnlyFirstAccepts, SharedStands, cells_of, settings_of, callers_of, asked_by};
 
 use cq_base::{Change, Entry, Memory, Settings};
 use cq_board::{Asked, Board, Finished, Job, Refused, View};
@@ -26,9 +26,40 @@ pub struct Shared<W: Indexed, R> {
     pub(crate) swept: AtomicU64,
 }
 
+// A hub before any event, and the pass of the first caller, who may be the only one that accepts changes.
+fn made<W: Indexed, R>(
+    rt: R,
+    alloc: Global,
+    settings: &Settings,
+    callers: u32,
+    first_only: bool,
+) -> Result<(Shared<W, R>, Pass<W>), Memory>
+where
+    R: Drop,
+    requires callers { (1 ≤ callers) × (callers ≤ 1024) }
+    requires shards { 1 ≤ settings.now.shards }
+    requires limit { settings.now.change_limit < 2 ^ 63 }
+    ensures stands { IfOk result (λ made. SharedStands made.0 made.1 0 []) }
+    ensures settings { IfOk result (λ made. settings_of made.0 ≡ settings.now) }
+    ensures callers { IfOk result (λ made. callers_of made.0 ≡ callers) }
+    ensures accepts { IfOk result (λ made. made.0.cells.about.first_only ≡ first_only) }
+    ensures room { IfOk result (λ made. (made.1.next ≡ 1) × (made.1.room ≡ callers - 1)) }
+    ensures asked { IfOk result (λ made. made.1.asked ≡ 0) }
+{
+    let board = Board::new(alloc, settings, callers)?;
+    let shards = shards_of(alloc, settings.shards)?;
+    let (cells, pass) = Cells::new(rt, alloc, board, shards, first_only)?;
+    let hub = Shared {
+        cells,
+        shards: settings.shards,
+        swept: AtomicU64::new(0),
+    };
+    Ok((hub, pass))
+}
+
 impl<W: Indexed, R> Shared<W, R> {
-    /// A hub of 1 to 1,024 callers before any event, and the pass of the first, who is number 0. It takes memory for a board
-    /// and its shards, and for a word and a slot of each.
+    /// A hub of 1 to 1,024 callers before any event, each of whom may accept changes, and the pass of the first, who is number
+    /// 0. It takes memory for a board and its shards, and for a word and a slot of each.
     pub fn new(
         rt: R,
         alloc: Global,
@@ -46,15 +77,29 @@ impl<W: Indexed, R> Shared<W, R> {
         ensures room { IfOk result (λ made. (made.1.next ≡ 1) × (made.1.room ≡ callers - 1)) }
         ensures asked { IfOk result (λ made. made.1.asked ≡ 0) }
     {
-        let board = Board::new(alloc, settings, callers)?;
-        let shards = shards_of(alloc, settings.shards)?;
-        let (cells, pass) = Cells::new(rt, alloc, board, shards)?;
-        let hub = Shared {
-            cells,
-            shards: settings.shards,
-            swept: AtomicU64::new(0),
-        };
-        Ok((hub, pass))
+        made(rt, alloc, settings, callers, false)
+    }
+
+    /// The same, but only the first caller may accept changes. So its pass has seen each acceptance.
+    pub fn with_first_accepting(
+        rt: R,
+        alloc: Global,
+        settings: &Settings,
+        callers: u32,
+    ) -> Result<(Shared<W, R>, Pass<W>), Memory>
+    where
+        R: Drop,
+        requires callers { (1 ≤ callers) × (callers ≤ 1024) }
+        requires shards { 1 ≤ settings.now.shards }
+        requires limit { settings.now.change_limit < 2 ^ 63 }
+        ensures stands { IfOk result (λ made. SharedStands made.0 made.1 0 []) }
+        ensures settings { IfOk result (λ made. settings_of made.0 ≡ settings.now) }
+        ensures callers { IfOk result (λ made. callers_of made.0 ≡ callers) }
+        ensures accepts { IfOk result (λ made. OnlyFirstAccepts made.0) }
+        ensures room { IfOk result (λ made. (made.1.next ≡ 1) × (made.1.room ≡ callers - 1)) }
+        ensures asked { IfOk result (λ made. made.1.asked ≡ 0) }
+    {
+        made(rt, alloc, settings, callers, true)
     }
 
     /// The cells of the board and its shards, for whoever looks into them.
@@ -90,6 +135,21 @@ impl<W: Indexed, R> Shared<W, R> {
         ensures asked { pass.new.asked ≡ pass.old.asked }
     {
         self.cells.join_pass(pass, other);
+    }
+
+    /// The pass has then seen what another one has, too, which stays as it is. One of the two had seen all that the other
+    /// had. It takes no memory.
+    pub fn level(&self, pass: &mut Pass<W>, other: &mut Pass<W>)
+        requires of { IsPassOf self.now pass.old × IsPassOf self.now other.old }
+        ensures of { IsPassOf self.now pass.new }
+        ensures same { IsSameCaller pass.old pass.new }
+        ensures other { other.new ≡ other.old }
+        ensures seen { pass.new.seen ≡ longer pass.old.seen other.old.seen }
+        ensures one_history { AreOneHistory pass.old.seen other.old.seen }
+        ensures own { IsOwn pass.old pass.new.seen }
+        ensures least { (s : ℕ) → least pass.new s ≡ max (least pass.old s) (least other.old s) }
+    {
+        self.cells.level(pass, other);
     }
 }
 

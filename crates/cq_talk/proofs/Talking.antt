@@ -22,7 +22,7 @@ use Rattle.cq_hub.proofs.Growing.{no_fewer, accepted_more}
 use Rattle.cq_answer.specs.Refusals.{cause_told}
 use Rattle.cq_talk.specs.Said.{Said, TooLong, Read}
 use Rattle.cq_talk.specs.Replies.{named, seen_after}
-use Rattle.cq_talk.specs.Talk.{Talk, Answers, IsAnswer, IsAnswered, IsChanged, IsGivenUp, IsServed, Tells, Asks, Waits}
+use Rattle.cq_talk.specs.Talk.{TalkBy, AnswersBy, IsAnswerBy, IsAnswered, IsChangedBy, IsGivenUp, IsServed, Tells, Asks, Waits}
 use Rattle.cq_talk.proofs.Served.{asks_grow, served_grows}
 use Rattle.cq_talk.proofs.Shown.{shown_named}
 use Rattle.cq_talk.proofs.Unmade.{IsUnmade}
@@ -55,12 +55,12 @@ module _ (set : Settings) (callers : ℕ) (alone : Type 0) (c : ℕ) where
   silent : (h later : List Event) (r : Reply) → length (accepted h) ≤ length (accepted later) → named r ≡ 0 → Few h later r
   silent h later r more none = record { more = more; name = omega (arith, none) }
 
-  changed_few : (h later : List Event) (change : Change) (r : Reply) → IsChanged set callers alone c h change r later → Few h later r
-  changed_few h later change r (inl is) =
+  changed_few : (by : ℕ) (h later : List Event) (change : Change) (r : Reply) → IsChangedBy set callers alone c by h change r later → Few h later r
+  changed_few by h later change r (inl is) =
       let number : named r ≡ length (accepted is.mid) + 1 = ap named is.reply_is in
-      let grown : length (accepted later) ≡ length (accepted is.mid) + 1 = ap (λ g. length (accepted g)) is.accepts ∙ accepted_more c change is.mid in
+      let grown : length (accepted later) ≡ length (accepted is.mid) + 1 = ap (λ g. length (accepted g)) is.accepts ∙ accepted_more by change is.mid in
       record { more = omega (arith, waits_few h is.mid is.waits, grown); name = omega (arith, number, grown) }
-  changed_few h later change r (inr is) = silent h later r (waits_few h later is.waits) (ap named is.reply_is ∙ no_number is.cause)
+  changed_few by h later change r (inr is) = silent h later r (waits_few h later is.waits) (ap named is.reply_is ∙ no_number is.cause)
 
   answered_few : (seen : ℕ) (h later : List Event) (q : Query) (r : Reply) → IsAnswered set callers alone c seen h q r later → Few h later r
   answered_few seen h later q r (inl is) = silent h later r (asks_few h later is.asks) (ap named is.reply_is)
@@ -75,12 +75,12 @@ module _ (set : Settings) (callers : ℕ) (alone : Type 0) (c : ℕ) where
       let name : named r ≡ (state callers is.asks.mid).published = ap named is.reply_is in
       record { more = asks_few h later is.asks; name = omega (arith, few, same, name) }
 
-  answer_few : (seen : ℕ) (h later : List Event) (l : Said) (r : Reply) → Lawful set callers later → IsAnswer set callers alone c seen h l r later → Few h later r
-  answer_few seen h later TooLong r law is = silent h later r (waits_few h later is.1) (ap named is.0)
-  answer_few seen h later (Read (Err why)) r law is = silent h later r (waits_few h later is.1) (ap named is.0)
-  answer_few seen h later (Read (Ok (request.Change change))) r law is = changed_few h later change r is
-  answer_few seen h later (Read (Ok (request.Query q))) r law is = answered_few seen h later q r is
-  answer_few seen h later (Read (Ok request.State)) r law is = told_few h later r law is
+  answer_few : (by seen : ℕ) (h later : List Event) (l : Said) (r : Reply) → Lawful set callers later → IsAnswerBy set callers alone c by seen h l r later → Few h later r
+  answer_few by seen h later TooLong r law is = silent h later r (waits_few h later is.1) (ap named is.0)
+  answer_few by seen h later (Read (Err why)) r law is = silent h later r (waits_few h later is.1) (ap named is.0)
+  answer_few by seen h later (Read (Ok (request.Change change))) r law is = changed_few by h later change r is
+  answer_few by seen h later (Read (Ok (request.Query q))) r law is = answered_few seen h later q r is
+  answer_few by seen h later (Read (Ok request.State)) r law is = told_few h later r law is
 
   given_up_few : (seen : ℕ) (h later : List Event) (l : Said) → IsGivenUp set callers alone c seen h l later → length (accepted h) ≤ length (accepted later)
   given_up_few seen h later TooLong is = absurd is
@@ -92,23 +92,23 @@ module _ (set : Settings) (callers : ℕ) (alone : Type 0) (c : ℕ) where
   given_up_few seen h later (Read (Ok request.State)) (inl waits) = waits_few h later waits
   given_up_few seen h later (Read (Ok request.State)) (inr asks) = asks_few h later asks
 
-  any_few : (seen : ℕ) (h later : List Event) (l : Said) (r : Reply) → Lawful set callers later → Answers set callers alone c seen h l r later → Few h later r
-  any_few seen h later l r law (inl given) = silent h later r (given_up_few seen h later l given.1) (ap named given.0)
-  any_few seen h later l r law (inr is) = answer_few seen h later l r law is
+  any_few : (by seen : ℕ) (h later : List Event) (l : Said) (r : Reply) → Lawful set callers later → AnswersBy set callers alone c by seen h l r later → Few h later r
+  any_few by seen h later l r law (inl given) = silent h later r (given_up_few seen h later l given.1) (ap named given.0)
+  any_few by seen h later l r law (inr is) = answer_few by seen h later l r law is
 
   -- what was named is still the number of an accepted change
-  pub named_few : (seen : ℕ) (h later : List Event) (l : Said) (r : Reply) → Lawful set callers later → seen ≤ length (accepted h) → Answers set callers alone c seen h l r later → max seen (named r) ≤ length (accepted later)
-  named_few seen h later l r law few is = let both = any_few seen h later l r law is in max-le (omega (arith, few, both.more)) both.name
+  pub named_few : (by seen : ℕ) (h later : List Event) (l : Said) (r : Reply) → Lawful set callers later → seen ≤ length (accepted h) → AnswersBy set callers alone c by seen h l r later → max seen (named r) ≤ length (accepted later)
+  named_few by seen h later l r law few is = let both = any_few by seen h later l r law is in max-le (omega (arith, few, both.more)) both.name
 
   -- one line more
-  pub Talk-more : (seen : ℕ) (h mid later : List Event) (lines : List Said) (replies : List Reply) (l : Said) (r : Reply) → Talk set callers alone c seen h lines replies mid → Answers set callers alone c (seen_after seen replies) mid l r later → Talk set callers alone c seen h (lines ++ l ∷ []) (replies ++ r ∷ []) later
-  Talk-more seen h mid later [] [] l r talk answers = (later, subst (λ (p : List Event). Answers set callers alone c seen p l r later) talk answers, refl)
-  Talk-more seen h mid later [] (s ∷ replies) l r talk answers = absurd talk
-  Talk-more seen h mid later (k ∷ lines) [] l r talk answers = absurd talk
-  Talk-more seen h mid later (k ∷ lines) (s ∷ replies) l r talk answers = (talk.0, talk.1, Talk-more (max seen (named s)) talk.0 mid later lines replies l r talk.2 answers)
+  pub Talk-more : (by seen : ℕ) (h mid later : List Event) (lines : List Said) (replies : List Reply) (l : Said) (r : Reply) → TalkBy set callers alone c by seen h lines replies mid → AnswersBy set callers alone c by (seen_after seen replies) mid l r later → TalkBy set callers alone c by seen h (lines ++ l ∷ []) (replies ++ r ∷ []) later
+  Talk-more by seen h mid later [] [] l r talk answers = (later, subst (λ (p : List Event). AnswersBy set callers alone c by seen p l r later) talk answers, refl)
+  Talk-more by seen h mid later [] (s ∷ replies) l r talk answers = absurd talk
+  Talk-more by seen h mid later (k ∷ lines) [] l r talk answers = absurd talk
+  Talk-more by seen h mid later (k ∷ lines) (s ∷ replies) l r talk answers = (talk.0, talk.1, Talk-more by (max seen (named s)) talk.0 mid later lines replies l r talk.2 answers)
 
-  pub turn_more : (seen : ℕ) (h mid later : List Event) (lines : List Said) (replies : List Reply) (l : Said) (r : Reply) → seen ≡ seen_after 0 replies → Talk set callers alone c 0 h lines replies mid → Answers set callers alone c seen mid l r later → Talk set callers alone c 0 h (lines ++ l ∷ []) (replies ++ r ∷ []) later
-  turn_more seen h mid later lines replies l r is talk answers = Talk-more 0 h mid later lines replies l r talk (subst (λ (n : ℕ). Answers set callers alone c n mid l r later) is answers)
+  pub turn_more : (by seen : ℕ) (h mid later : List Event) (lines : List Said) (replies : List Reply) (l : Said) (r : Reply) → seen ≡ seen_after 0 replies → TalkBy set callers alone c by 0 h lines replies mid → AnswersBy set callers alone c by seen mid l r later → TalkBy set callers alone c by 0 h (lines ++ l ∷ []) (replies ++ r ∷ []) later
+  turn_more by seen h mid later lines replies l r is talk answers = Talk-more by 0 h mid later lines replies l r talk (subst (λ (n : ℕ). AnswersBy set callers alone c by n mid l r later) is answers)
 
 pub seen_more : (seen : ℕ) (replies : List Reply) (r : Reply) → seen_after seen (replies ++ r ∷ []) ≡ max (seen_after seen replies) (named r)
 seen_more seen [] r = refl

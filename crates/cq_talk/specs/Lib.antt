@@ -8,3 +8,4 @@ pub mod Beside
 pub mod Gives
 pub mod Laws
 pub mod Gathered
+pub mod Saying

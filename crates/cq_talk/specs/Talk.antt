@@ -58,13 +58,17 @@ module _ (alone : Type 0) (c : ℕ) where
 module _ (set : Settings) (callers : ℕ) (alone : Type 0) (c : ℕ) where
   -- ---- changes
 
-  -- the change is accepted, with the number of its acceptance
-  pub record Accepts (h : List Event) (change : Change) (r : Reply) (after : List Event) : Type 0 where
+  -- the change is accepted by the caller with the number `by`, with the number of its acceptance
+  pub record AcceptsBy (by : ℕ) (h : List Event) (change : Change) (r : Reply) (after : List Event) : Type 0 where
     pub mid : List Event
     pub waits : Waits alone c h mid
     pub no_cause : refusal_of set (state callers mid) change ≡ None
-    pub accepts : after ≡ mid ++ event.Accept c change ∷ []
+    pub accepts : after ≡ mid ++ event.Accept by change ∷ []
     pub reply_is : r ≡ reply.Change (length (accepted mid) + 1)
+
+  -- it is accepted by the caller who sent it
+  abbrev pub Accepts : List Event → Change → Reply → List Event → Type 0
+  Accepts h change r after = AcceptsBy c h change r after
 
   -- the reply is the first cause against it, in the history that the refusing call had seen
   pub record Refuses (h : List Event) (change : Change) (r : Reply) (after : List Event) : Type 0 where
@@ -73,8 +77,11 @@ module _ (set : Settings) (callers : ℕ) (alone : Type 0) (c : ℕ) where
     pub cause_is : refusal_of set (state callers after) change ≡ Some cause
     pub reply_is : r ≡ cause_told cause
 
+  abbrev pub IsChangedBy : ℕ → List Event → Change → Reply → List Event → Type 0
+  IsChangedBy by h change r after = AcceptsBy by h change r after ⊎ Refuses h change r after
+
   abbrev pub IsChanged : List Event → Change → Reply → List Event → Type 0
-  IsChanged h change r after = Accepts h change r after ⊎ Refuses h change r after
+  IsChanged h change r after = IsChangedBy c h change r after
 
   -- ---- the state
 
@@ -131,13 +138,16 @@ module _ (set : Settings) (callers : ℕ) (alone : Type 0) (c : ℕ) where
 
   -- ---- lines
 
-  -- what a line says is answered
+  -- what a line says is answered, and the caller with the number `by` accepts it if it is a change
+  abbrev pub IsAnswerBy : ℕ → ℕ → List Event → Said → Reply → List Event → Type 0
+  IsAnswerBy by seen h TooLong r after = (r ≡ reply.Long) × Waits alone c h after
+  IsAnswerBy by seen h (Read (Err why)) r after = (r ≡ reply.Refused why) × Waits alone c h after
+  IsAnswerBy by seen h (Read (Ok (request.Change change))) r after = IsChangedBy by h change r after
+  IsAnswerBy by seen h (Read (Ok (request.Query q))) r after = IsAnswered seen h q r after
+  IsAnswerBy by seen h (Read (Ok request.State)) r after = Tells h r after
+
   abbrev pub IsAnswer : ℕ → List Event → Said → Reply → List Event → Type 0
-  IsAnswer seen h TooLong r after = (r ≡ reply.Long) × Waits alone c h after
-  IsAnswer seen h (Read (Err why)) r after = (r ≡ reply.Refused why) × Waits alone c h after
-  IsAnswer seen h (Read (Ok (request.Change change))) r after = IsChanged h change r after
-  IsAnswer seen h (Read (Ok (request.Query q))) r after = IsAnswered seen h q r after
-  IsAnswer seen h (Read (Ok request.State)) r after = Tells h r after
+  IsAnswer seen h l r after = IsAnswerBy c seen h l r after
 
   -- How far a line came if memory was refused: what it did is a beginning of what it does, it accepted nothing, and no
   -- view is open.
@@ -148,12 +158,20 @@ module _ (set : Settings) (callers : ℕ) (alone : Type 0) (c : ℕ) where
   IsGivenUp seen h (Read (Ok (request.Query q))) after = Waits alone c h after ⊎ (Asks alone c h after ⊎ ((view : Option ℕ) × IsServed seen q h after view))
   IsGivenUp seen h (Read (Ok request.State)) after = Waits alone c h after ⊎ Asks alone c h after
 
-  abbrev pub Answers : ℕ → List Event → Said → Reply → List Event → Type 0
-  Answers seen h l r after = ((r ≡ reply.Memory) × IsGivenUp seen h l after) ⊎ IsAnswer seen h l r after
+  abbrev pub AnswersBy : ℕ → ℕ → List Event → Said → Reply → List Event → Type 0
+  AnswersBy by seen h l r after = ((r ≡ reply.Memory) × IsGivenUp seen h l after) ⊎ IsAnswerBy by seen h l r after
 
-  -- One reply for each line, in order. A query's floor is at least each number that was named before.
+  abbrev pub Answers : ℕ → List Event → Said → Reply → List Event → Type 0
+  Answers seen h l r after = AnswersBy c seen h l r after
+
+  -- One reply for each line, in order. A query's floor is at least each number that was named before. The caller with the
+  -- number `by` accepts the changes.
+  abbrev pub TalkBy : ℕ → ℕ → List Event → List Said → List Reply → List Event → Type 0
+  TalkBy by seen h [] [] after = after ≡ h
+  TalkBy by seen h [] (r ∷ replies) after = ⊥
+  TalkBy by seen h (l ∷ lines) [] after = ⊥
+  TalkBy by seen h (l ∷ lines) (r ∷ replies) after = (mid : List Event) × AnswersBy by seen h l r mid × TalkBy by (max seen (named r)) mid lines replies after
+
+  -- the caller's changes are accepted by itself
   abbrev pub Talk : ℕ → List Event → List Said → List Reply → List Event → Type 0
-  Talk seen h [] [] after = after ≡ h
-  Talk seen h [] (r ∷ replies) after = ⊥
-  Talk seen h (l ∷ lines) [] after = ⊥
-  Talk seen h (l ∷ lines) (r ∷ replies) after = (mid : List Event) × Answers seen h l r mid × Talk (max seen (named r)) mid lines replies after
+  Talk seen h lines replies after = TalkBy c seen h lines replies after

@@ -8,8 +8,8 @@ use Rattle.clap.specs.Simple.{App, built, matches_of}
 use Rattle.clap.specs.Faults.{fault_of}
 use Rattle.clap.specs.Words.{is_simple_and_free}
 use Rattle.clap.proofs.OnLiterals.{clap_on_literals}
-use Rattle.cq_words.specs.Asked.{is_asked, asked_app, command_read, settings_read, when}
-use Rattle.cq_words.specs.Command.{command_after, command_from, export_made, listen_made, make_made, run_made, settings_from, settings_made}
+use Rattle.cq_words.specs.Asked.{is_asked, asked_app, command_read, server_read, settings_read, when}
+use Rattle.cq_words.specs.Command.{command_after, command_from, export_made, listen_made, make_made, run_made, server_from, settings_from, settings_made}
 use Rattle.cq_words.specs.Grammar.{Word, Row, Item, are_whole, has_name, items_from, items_of}
 use Rattle.cq_words.specs.Table.{flag_name, param_name, row_of, verb_name}
 use Rattle.cq_words.specs.declared.command.Command.TheVariants as command
@@ -28,42 +28,52 @@ built_is : (v : Verb) → built (asked_app v) ≡ built_app (verb_name v) (row_o
 unfolding clap_on_literals
 built_is verb.Run = refl
 built_is verb.Listen = refl
+built_is verb.Serve = refl
 built_is verb.Drive = refl
 built_is verb.Make = refl
 built_is verb.Export = refl
 built_is verb.Ask = refl
+built_is verb.Shorten = refl
 
 is_bare : (v : Verb) → (asked_app v).top.no_binary_name ≡ true
 is_bare verb.Run = refl
 is_bare verb.Listen = refl
+is_bare verb.Serve = refl
 is_bare verb.Drive = refl
 is_bare verb.Make = refl
 is_bare verb.Export = refl
 is_bare verb.Ask = refl
+is_bare verb.Shorten = refl
 
 pub is_simple : (v : Verb) → is_simple_and_free (asked_app v) ≡ true
 is_simple verb.Run = refl
 is_simple verb.Listen = refl
+is_simple verb.Serve = refl
 is_simple verb.Drive = refl
 is_simple verb.Make = refl
 is_simple verb.Export = refl
 is_simple verb.Ask = refl
+is_simple verb.Shorten = refl
 
 places : (v : Verb) → Places (rules_of (row_of v)) 1 (row_of v).positionals
 places verb.Run = refl
 places verb.Listen = (refl, refl, refl)
+places verb.Serve = (refl, refl, refl)
 places verb.Drive = refl
 places verb.Make = (refl, refl, (refl, refl, refl))
 places verb.Export = (refl, refl, refl)
 places verb.Ask = refl
+places verb.Shorten = refl
 
 are_plain : (v : Verb) → ArePlain (row_of v) (row_of v).positionals
 are_plain verb.Run = tt
 are_plain verb.Listen = (refl, tt)
+are_plain verb.Serve = (refl, tt)
 are_plain verb.Drive = tt
 are_plain verb.Make = (refl, (refl, tt))
 are_plain verb.Export = (refl, tt)
 are_plain verb.Ask = tt
+are_plain verb.Shorten = tt
 
 -- no number has a flag's name, and no flag an option's or a positional's
 other_name : (p : Param) → has_name (map flag_name (flag.IgnoreIds ∷ flag.IgnoreLiterals ∷ [])) (param_name p) ≡ false
@@ -85,16 +95,20 @@ other_name param.Files = refl
 no_flag : (v : Verb) (p : Param) → has_name (row_of v).flags (param_name p) ≡ false
 no_flag verb.Run p = other_name p
 no_flag verb.Listen p = other_name p
+no_flag verb.Serve p = other_name p
 no_flag verb.Drive p = other_name p
 no_flag verb.Make p = refl
 no_flag verb.Export p = other_name p
 no_flag verb.Ask p = other_name p
+no_flag verb.Shorten p = other_name p
 
 no_option : (v : Verb) (f : Flag) → has_name (row_of v).options (flag_name f) ≡ false
 no_option verb.Run flag.IgnoreIds = refl
 no_option verb.Run flag.IgnoreLiterals = refl
 no_option verb.Listen flag.IgnoreIds = refl
 no_option verb.Listen flag.IgnoreLiterals = refl
+no_option verb.Serve flag.IgnoreIds = refl
+no_option verb.Serve flag.IgnoreLiterals = refl
 no_option verb.Drive flag.IgnoreIds = refl
 no_option verb.Drive flag.IgnoreLiterals = refl
 no_option verb.Make f = refl
@@ -102,17 +116,22 @@ no_option verb.Export flag.IgnoreIds = refl
 no_option verb.Export flag.IgnoreLiterals = refl
 no_option verb.Ask flag.IgnoreIds = refl
 no_option verb.Ask flag.IgnoreLiterals = refl
+no_option verb.Shorten flag.IgnoreIds = refl
+no_option verb.Shorten flag.IgnoreLiterals = refl
 
 no_place : (v : Verb) (f : Flag) → has_name (row_of v).positionals (flag_name f) ≡ false
 no_place verb.Run f = refl
 no_place verb.Listen flag.IgnoreIds = refl
 no_place verb.Listen flag.IgnoreLiterals = refl
+no_place verb.Serve flag.IgnoreIds = refl
+no_place verb.Serve flag.IgnoreLiterals = refl
 no_place verb.Drive f = refl
 no_place verb.Make flag.IgnoreIds = refl
 no_place verb.Make flag.IgnoreLiterals = refl
 no_place verb.Export flag.IgnoreIds = refl
 no_place verb.Export flag.IgnoreLiterals = refl
 no_place verb.Ask f = refl
+no_place verb.Shorten f = refl
 
 -- the values, from the entries and from the items
 abbrev AreAllBare : List Item → Type 0
@@ -137,21 +156,27 @@ known_flag : (f : Flag) → has_name (map flag_name (flag.IgnoreIds ∷ flag.Ign
 known_flag flag.IgnoreIds = refl
 known_flag flag.IgnoreLiterals = refl
 
+server_is : (row : Row) (items : List Item) → ((p : Param) → has_name row.flags (param_name p) ≡ false) → ((f : Flag) → has_name row.flags (flag_name f) ≡ true) → AreAllBare items → AreAllValued items
+    → server_read (entries_of row items) ≡ server_from items
+server_is row items other known bare valued = λ i. listen_made
+    (settings_are row items other known bare i)
+    (taken_is row items param.Address (other param.Address) (valued param.Address) i)
+    (number_is row items param.ListenWorkers (other param.ListenWorkers) i)
+    (number_is row items param.Sessions (other param.Sessions) i)
+    (number_is row items param.Connections (other param.Connections) i)
+
 values_are : (v : Verb) (items : List Item) → AreAllBare items → AreAllValued items → command_read v (entries_of (row_of v) items) ≡ command_from v items
 values_are verb.Run items bare valued = λ i. option_map command.Run
     (run_made (settings_are (row_of verb.Run) items other_name known_flag bare i) (number_is (row_of verb.Run) items param.Workers refl i))
-values_are verb.Listen items bare valued = λ i. option_map command.Listen (listen_made
-    (settings_are (row_of verb.Listen) items other_name known_flag bare i)
-    (taken_is (row_of verb.Listen) items param.Address refl (valued param.Address) i)
-    (number_is (row_of verb.Listen) items param.ListenWorkers refl i)
-    (number_is (row_of verb.Listen) items param.Sessions refl i)
-    (number_is (row_of verb.Listen) items param.Connections refl i))
+values_are verb.Listen items bare valued = λ i. option_map command.Listen (server_is (row_of verb.Listen) items other_name known_flag bare valued i)
+values_are verb.Serve items bare valued = λ i. option_map command.Serve (server_is (row_of verb.Serve) items other_name known_flag bare valued i)
 values_are verb.Drive items bare valued = λ i. option_map command.Drive (settings_are (row_of verb.Drive) items other_name known_flag bare i)
 values_are verb.Make items bare valued = λ i. option_map command.Make
     (make_made (number_is (row_of verb.Make) items param.Number refl i) (number_is (row_of verb.Make) items param.Files refl i))
 values_are verb.Export items bare valued = λ i. option_map command.Export
     (export_made (settings_are (row_of verb.Export) items other_name known_flag bare i) (taken_is (row_of verb.Export) items param.Project refl (valued param.Project) i))
 values_are verb.Ask items bare valued = λ i. option_map command.Ask (settings_are (row_of verb.Ask) items other_name known_flag bare i)
+values_are verb.Shorten items bare valued = λ i. option_map command.Shorten (settings_are (row_of verb.Shorten) items other_name known_flag bare i)
 
 each_item : (row : Row) (x : Option (List Item)) (P : Item → Type 0) → EachIfSome P x → EachIfSome P (option_and_then (λ items. cond (are_whole row items) (Some items) None) x)
 each_item row None P each = tt

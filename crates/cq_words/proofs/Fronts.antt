@@ -11,9 +11,10 @@ use Rattle.cq_words.specs.Front.{are_places_given, is_plain, read_in, IsFront, I
 use Rattle.cq_words.specs.declared.form.Left.{Left}
 use Rattle.cq_words.specs.declared.form.Front.{Front}
 use Rattle.cq_base.specs.declared.settings.Settings.{Settings}
-use Rattle.cq_words.specs.Command.{settings_made, run_made, listen_made, make_made, export_made, settings_from, command_from, command_after}
+use Rattle.cq_words.specs.Command.{settings_made, run_made, listen_made, make_made, export_made, settings_from, server_from, command_from, command_after}
 use Rattle.cq_words.specs.Table.{row_of, options_of, param_name, range_of, number_or, number_from, text_or, text_from, has_flag}
 use Rattle.cq_words.specs.declared.command.Command.{Command}
+use Rattle.cq_words.specs.declared.command.Listen.{Listen}
 use Rattle.cq_words.specs.declared.command.Command.TheVariants as command
 use Rattle.cq_words.specs.declared.table.Verb.{Verb}
 use Rattle.cq_words.specs.declared.table.Verb.TheVariants as verb
@@ -174,19 +175,28 @@ listen_some : (settings : Option Settings) (address : Option Word) (workers sess
 listen_some settings address workers sessions connections =
     and_then_some _ settings _ (λ a. and_then_some _ address _ (λ b. and_then_some _ workers _ (λ c. and_then_some _ sessions _ (λ d. map_some _ connections))))
 
+-- the numbers and the text of `listen` and `serve` are there just where its command is
+server_there : (made : Listen → Command) (items : List Item) → (list_all (is_there items) (options_of verb.Listen) && is_some (text_from param.Address items)) ≡ is_some (option_map made (server_from items))
+server_there made items = sym (map_some made (server_from items)
+    ∙ listen_some (settings_from items) (text_from param.Address items) (number_from param.ListenWorkers items) (number_from param.Sessions items) (number_from param.Connections items)
+    ∙ ap (λ b. b && (is_some (text_from param.Address items) && (is_there items param.ListenWorkers && (is_there items param.Sessions && is_there items param.Connections)))) (settings_there items)
+    ∙ last_three (is_there items param.Chunk) (is_there items param.Shards) (is_there items param.KeyBits) (is_there items param.ChangeLimit) (is_there items param.TextLimit) (is_there items param.ByteLimit)
+    (is_some (text_from param.Address items)) (is_there items param.ListenWorkers) (is_there items param.Sessions) (is_there items param.Connections))
+
+-- and so are those of a command that has only settings
+only_settings_there : (made : Settings → Command) (items : List Item) → (list_all (is_there items) (options_of verb.Drive) && true) ≡ is_some (option_map made (settings_from items))
+only_settings_there made items = sym (map_some made (settings_from items) ∙ settings_there items
+    ∙ no_last (is_there items param.Chunk) (is_there items param.Shards) (is_there items param.KeyBits) (is_there items param.ChangeLimit) (is_there items param.TextLimit) (is_there items param.ByteLimit))
+
 -- a command's numbers and its text are there just where the command is
 pub all_there : (v : Verb) (items : List Item) → (list_all (is_there items) (options_of v) && are_places_given v items) ≡ is_some (command_from v items)
 all_there verb.Run items = sym (map_some command.Run (run_made (settings_from items) (number_from param.Workers items))
     ∙ and_then_some _ (settings_from items) _ (λ s. map_some _ (number_from param.Workers items))
     ∙ ap (λ b. b && is_there items param.Workers) (settings_there items)
     ∙ last_one (is_there items param.Chunk) (is_there items param.Shards) (is_there items param.KeyBits) (is_there items param.ChangeLimit) (is_there items param.TextLimit) (is_there items param.ByteLimit) (is_there items param.Workers))
-all_there verb.Listen items = sym (map_some command.Listen (listen_made (settings_from items) (text_from param.Address items) (number_from param.ListenWorkers items) (number_from param.Sessions items) (number_from param.Connections items))
-    ∙ listen_some (settings_from items) (text_from param.Address items) (number_from param.ListenWorkers items) (number_from param.Sessions items) (number_from param.Connections items)
-    ∙ ap (λ b. b && (is_some (text_from param.Address items) && (is_there items param.ListenWorkers && (is_there items param.Sessions && is_there items param.Connections)))) (settings_there items)
-    ∙ last_three (is_there items param.Chunk) (is_there items param.Shards) (is_there items param.KeyBits) (is_there items param.ChangeLimit) (is_there items param.TextLimit) (is_there items param.ByteLimit)
-    (is_some (text_from param.Address items)) (is_there items param.ListenWorkers) (is_there items param.Sessions) (is_there items param.Connections))
-all_there verb.Drive items = sym (map_some command.Drive (settings_from items) ∙ settings_there items
-    ∙ no_last (is_there items param.Chunk) (is_there items param.Shards) (is_there items param.KeyBits) (is_there items param.ChangeLimit) (is_there items param.TextLimit) (is_there items param.ByteLimit))
+all_there verb.Listen items = server_there command.Listen items
+all_there verb.Serve items = server_there command.Serve items
+all_there verb.Drive items = only_settings_there command.Drive items
 all_there verb.Make items = sym (map_some command.Make (make_made (number_from param.Number items) (number_from param.Files items))
     ∙ and_then_some _ (number_from param.Number items) _ (λ n. map_some _ (number_from param.Files items))
     ∙ ap (λ b. is_there items param.Number && b) (sym (and_all (is_there items param.Files))))
@@ -194,8 +204,8 @@ all_there verb.Export items = sym (map_some command.Export (export_made (setting
     ∙ and_then_some _ (settings_from items) _ (λ s. map_some _ (text_from param.Project items))
     ∙ ap (λ b. b && is_some (text_from param.Project items)) (settings_there items)
     ∙ with_text (is_there items param.Chunk) (is_there items param.Shards) (is_there items param.KeyBits) (is_there items param.ChangeLimit) (is_there items param.TextLimit) (is_there items param.ByteLimit) (is_some (text_from param.Project items)))
-all_there verb.Ask items = sym (map_some command.Ask (settings_from items) ∙ settings_there items
-    ∙ no_last (is_there items param.Chunk) (is_there items param.Shards) (is_there items param.KeyBits) (is_there items param.ChangeLimit) (is_there items param.TextLimit) (is_there items param.ByteLimit))
+all_there verb.Ask items = only_settings_there command.Ask items
+all_there verb.Shorten items = only_settings_there command.Shorten items
 
 -- a positional's value is there only where its item is
 item_missing : (name : Word) (items : List Item) → has_item items name ≡ false → item_of name items ≡ None
@@ -204,23 +214,29 @@ item_missing name (item ∷ items) none =
     let parts = or_parts (bytes_eq item.0 name) (has_item items name) none in
     ap (λ b. cond b (Some item) (item_of name items)) parts.0 ∙ item_missing name items parts.1
 
--- so a command's values say that its positionals are there
-placed : (v : Verb) (items : List Item) → cond (list_all (has_item items) (row_of v).positionals) (command_from v items) None ≡ command_from v items
-placed verb.Run items = refl
-placed verb.Drive items = refl
-placed verb.Ask items = refl
-placed verb.Listen items = there (has_item items (param_name param.Address)) refl
+-- so the values of `listen` and `serve` say that the address is there
+server_placed : (made : Listen → Command) (items : List Item) → cond (has_item items (param_name param.Address) && true) (option_map made (server_from items)) None ≡ option_map made (server_from items)
+server_placed made items = there (has_item items (param_name param.Address)) refl
   where
     from_parts : Option Settings → Option Word → Option Command
-    from_parts settings address = option_map command.Listen (listen_made settings address (number_from param.ListenWorkers items) (number_from param.Sessions items) (number_from param.Connections items))
+    from_parts settings address = option_map made (listen_made settings address (number_from param.ListenWorkers items) (number_from param.Sessions items) (number_from param.Connections items))
 
     no_address : (settings : Option Settings) → from_parts settings None ≡ None
     no_address None = refl
     no_address (Some s) = refl
 
-    there : (a : Bool) → has_item items (param_name param.Address) ≡ a → cond (a && true) (command_from verb.Listen items) None ≡ command_from verb.Listen items
+    there : (a : Bool) → has_item items (param_name param.Address) ≡ a → cond (a && true) (option_map made (server_from items)) None ≡ option_map made (server_from items)
     there true address = refl
     there false address = sym (ap (λ x. from_parts (settings_from items) (text_or param.Address x)) (item_missing (param_name param.Address) items address) ∙ no_address (settings_from items))
+
+-- and a command's that its positionals are there
+placed : (v : Verb) (items : List Item) → cond (list_all (has_item items) (row_of v).positionals) (command_from v items) None ≡ command_from v items
+placed verb.Run items = refl
+placed verb.Listen items = server_placed command.Listen items
+placed verb.Serve items = server_placed command.Serve items
+placed verb.Drive items = refl
+placed verb.Ask items = refl
+placed verb.Shorten items = refl
 placed verb.Export items = there (has_item items (param_name param.Project)) refl
   where
     from_parts : Option Settings → Option Word → Option Command

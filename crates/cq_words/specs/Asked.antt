@@ -21,6 +21,7 @@ use Rattle.cq_words.specs.declared.table.Param.TheVariants as param
 use Rattle.cq_words.specs.declared.table.Flag.{Flag}
 use Rattle.cq_words.specs.declared.table.Flag.TheVariants as flag
 use Rattle.cq_words.specs.declared.table.Range.{Range}
+use Rattle.cq_words.specs.declared.command.Listen.{Listen}
 use Rattle.cq_words.specs.declared.command.Command.{Command}
 use Rattle.cq_words.specs.declared.command.Command.TheVariants as command
 
@@ -111,15 +112,21 @@ settings_read entries = settings_made
     (flag_read flag.IgnoreIds entries)
     (flag_read flag.IgnoreLiterals entries)
 
-abbrev pub command_read : Verb → List Entry → Option Command
-command_read verb.Run entries = option_map command.Run (run_made (settings_read entries) (number_read param.Workers entries))
-command_read verb.Listen entries = option_map command.Listen (listen_made
+-- of `listen` and `serve`
+abbrev pub server_read : List Entry → Option Listen
+server_read entries = listen_made
     (settings_read entries)
     (text_read param.Address entries)
     (number_read param.ListenWorkers entries)
     (number_read param.Sessions entries)
-    (number_read param.Connections entries))
+    (number_read param.Connections entries)
+
+abbrev pub command_read : Verb → List Entry → Option Command
+command_read verb.Run entries = option_map command.Run (run_made (settings_read entries) (number_read param.Workers entries))
+command_read verb.Listen entries = option_map command.Listen (server_read entries)
+command_read verb.Serve entries = option_map command.Serve (server_read entries)
 command_read verb.Drive entries = option_map command.Drive (settings_read entries)
 command_read verb.Make entries = option_map command.Make (make_made (number_read param.Number entries) (number_read param.Files entries))
 command_read verb.Export entries = option_map command.Export (export_made (settings_read entries) (text_read param.Project entries))
 command_read verb.Ask entries = option_map command.Ask (settings_read entries)
+command_read verb.Shorten entries = option_map command.Shorten (settings_read entries)

@@ -75,19 +75,25 @@ default_settings = record {
   byte_limit = default_of param.ByteLimit;
 }
 
--- what the items of a command give
-abbrev pub command_from : Verb → List Item → Option Command
-command_from verb.Run items = option_map command.Run (run_made (settings_from items) (number_from param.Workers items))
-command_from verb.Listen items = option_map command.Listen (listen_made
+-- what the items of `listen` and `serve` give
+abbrev pub server_from : List Item → Option Listen
+server_from items = listen_made
     (settings_from items)
     (text_from param.Address items)
     (number_from param.ListenWorkers items)
     (number_from param.Sessions items)
-    (number_from param.Connections items))
+    (number_from param.Connections items)
+
+-- what the items of a command give
+abbrev pub command_from : Verb → List Item → Option Command
+command_from verb.Run items = option_map command.Run (run_made (settings_from items) (number_from param.Workers items))
+command_from verb.Listen items = option_map command.Listen (server_from items)
+command_from verb.Serve items = option_map command.Serve (server_from items)
 command_from verb.Drive items = option_map command.Drive (settings_from items)
 command_from verb.Make items = option_map command.Make (make_made (number_from param.Number items) (number_from param.Files items))
 command_from verb.Export items = option_map command.Export (export_made (settings_from items) (text_from param.Project items))
 command_from verb.Ask items = option_map command.Ask (settings_from items)
+command_from verb.Shorten items = option_map command.Shorten (settings_from items)
 
 -- what the words after a command's name give
 abbrev pub command_after : Verb → List Word → Option Command
@@ -98,24 +104,32 @@ abbrev pub command_of : List Word → Option Command
 command_of [] = None
 command_of (word ∷ words) = option_and_then (λ v. command_after v words) (verb_named word)
 
--- after how many connections the doors are to end, if the command is `listen`
+-- after how many connections the doors are to end, if the command is `listen` or `serve`
 abbrev pub connections_in : Command → Option ℕ
 connections_in (command.Run run) = None
 connections_in (command.Listen listen) = Some listen.connections
+connections_in (command.Serve serve) = Some serve.connections
 connections_in (command.Drive settings) = None
 connections_in (command.Make make) = None
 connections_in (command.Export export) = None
 connections_in (command.Ask settings) = None
+connections_in (command.Shorten settings) = None
 
 abbrev pub connections_of : List Word → Option ℕ
 connections_of words = option_and_then connections_in (command_of words)
+
+-- of `listen` and `serve`
+abbrev pub HasServerRanges : Listen → Type 0
+HasServerRanges asked = IsInRange asked.settings × (asked.workers ≤ 64) × (1 ≤ asked.sessions) × (asked.sessions ≤ 64)
 
 -- the settings are in their ranges, workers, sessions and files are few, there is a session, and a project has the form of
 -- one
 abbrev pub HasRanges : Command → Type 0
 HasRanges (command.Run run) = IsInRange run.settings × (run.workers ≤ 64)
-HasRanges (command.Listen listen) = IsInRange listen.settings × (listen.workers ≤ 64) × (1 ≤ listen.sessions) × (listen.sessions ≤ 64)
+HasRanges (command.Listen listen) = HasServerRanges listen
+HasRanges (command.Serve serve) = HasServerRanges serve
 HasRanges (command.Drive settings) = IsInRange settings
 HasRanges (command.Make make) = make.files ≤ 10000
 HasRanges (command.Export export) = IsInRange export.settings × (is_project export.project ≡ true)
 HasRanges (command.Ask settings) = IsInRange settings
+HasRanges (command.Shorten settings) = IsInRange settings

@@ -65,11 +65,13 @@ is_within p value = is_some (number_or (range_of p) (Some ([], value)))
 abbrev pub is_text : Param → Option Word → Bool
 is_text p value = is_some (text_or p (Some ([], value)))
 
--- the positionals are there: the address of `listen`, the project of `export`, and numbers in their ranges
+-- the positionals are there: the address of `listen` and `serve`, the project of `export`, and numbers in their ranges
 abbrev pub are_places_given : Verb → List Item → Bool
 are_places_given verb.Listen items = is_some (text_from param.Address items)
+are_places_given verb.Serve items = is_some (text_from param.Address items)
 are_places_given verb.Run items = list_all (λ p. is_some (number_from p items)) (positionals_of verb.Run)
 are_places_given verb.Drive items = list_all (λ p. is_some (number_from p items)) (positionals_of verb.Drive)
 are_places_given verb.Make items = list_all (λ p. is_some (number_from p items)) (positionals_of verb.Make)
 are_places_given verb.Export items = is_some (text_from param.Project items)
 are_places_given verb.Ask items = list_all (λ p. is_some (number_from p items)) (positionals_of verb.Ask)
+are_places_given verb.Shorten items = list_all (λ p. is_some (number_from p items)) (positionals_of verb.Shorten)

@@ -16,47 +16,59 @@ use Rattle.cq_words.specs.declared.table.Range.{Range}
 abbrev pub verb_name : Verb → Word
 verb_name verb.Run = codes "run"
 verb_name verb.Listen = codes "listen"
+verb_name verb.Serve = codes "serve"
 verb_name verb.Drive = codes "drive"
 verb_name verb.Make = codes "make"
 verb_name verb.Export = codes "export"
 verb_name verb.Ask = codes "ask"
+verb_name verb.Shorten = codes "shorten"
 
 -- the command that a word names
 abbrev pub verb_named : Word → Option Verb
 verb_named word =
     if bytes_eq word (codes "run") then Some verb.Run
     else (if bytes_eq word (codes "listen") then Some verb.Listen
+    else (if bytes_eq word (codes "serve") then Some verb.Serve
     else (if bytes_eq word (codes "drive") then Some verb.Drive
     else (if bytes_eq word (codes "make") then Some verb.Make
     else (if bytes_eq word (codes "export") then Some verb.Export
     else (if bytes_eq word (codes "ask") then Some verb.Ask
-    else None)))))
+    else (if bytes_eq word (codes "shorten") then Some verb.Shorten
+    else None)))))))
 
 abbrev pub options_of : Verb → List Param
 options_of verb.Run = param.Chunk ∷ param.Shards ∷ param.KeyBits ∷ param.ChangeLimit ∷ param.TextLimit ∷ param.ByteLimit ∷ param.Workers ∷ []
 options_of verb.Listen =
     param.Chunk ∷ param.Shards ∷ param.KeyBits ∷ param.ChangeLimit ∷ param.TextLimit ∷ param.ByteLimit
     ∷ param.ListenWorkers ∷ param.Sessions ∷ param.Connections ∷ []
+options_of verb.Serve =
+    param.Chunk ∷ param.Shards ∷ param.KeyBits ∷ param.ChangeLimit ∷ param.TextLimit ∷ param.ByteLimit
+    ∷ param.ListenWorkers ∷ param.Sessions ∷ param.Connections ∷ []
 options_of verb.Drive = param.Chunk ∷ param.Shards ∷ param.KeyBits ∷ param.ChangeLimit ∷ param.TextLimit ∷ param.ByteLimit ∷ []
 options_of verb.Make = []
 options_of verb.Export = param.Chunk ∷ param.Shards ∷ param.KeyBits ∷ param.ChangeLimit ∷ param.TextLimit ∷ param.ByteLimit ∷ []
 options_of verb.Ask = param.Chunk ∷ param.Shards ∷ param.KeyBits ∷ param.ChangeLimit ∷ param.TextLimit ∷ param.ByteLimit ∷ []
+options_of verb.Shorten = param.Chunk ∷ param.Shards ∷ param.KeyBits ∷ param.ChangeLimit ∷ param.TextLimit ∷ param.ByteLimit ∷ []
 
 abbrev pub flags_of : Verb → List Flag
 flags_of verb.Run = flag.IgnoreIds ∷ flag.IgnoreLiterals ∷ []
 flags_of verb.Listen = flag.IgnoreIds ∷ flag.IgnoreLiterals ∷ []
+flags_of verb.Serve = flag.IgnoreIds ∷ flag.IgnoreLiterals ∷ []
 flags_of verb.Drive = flag.IgnoreIds ∷ flag.IgnoreLiterals ∷ []
 flags_of verb.Make = []
 flags_of verb.Export = flag.IgnoreIds ∷ flag.IgnoreLiterals ∷ []
 flags_of verb.Ask = flag.IgnoreIds ∷ flag.IgnoreLiterals ∷ []
+flags_of verb.Shorten = flag.IgnoreIds ∷ flag.IgnoreLiterals ∷ []
 
 abbrev pub positionals_of : Verb → List Param
 positionals_of verb.Run = []
 positionals_of verb.Listen = param.Address ∷ []
+positionals_of verb.Serve = param.Address ∷ []
 positionals_of verb.Drive = []
 positionals_of verb.Make = param.Number ∷ param.Files ∷ []
 positionals_of verb.Export = param.Project ∷ []
 positionals_of verb.Ask = []
+positionals_of verb.Shorten = []
 
 abbrev pub param_name : Param → Word
 param_name param.Chunk = codes "chunk"

@@ -8,7 +8,7 @@ pub struct Run {
     pub workers: u32,
 }
 
-/// What the words of `listen` give.
+/// What the words of `listen` and `serve` give.
 #[derive(Debug, Drop, PartialEq, Eq)]
 pub struct Listen {
     pub settings: Settings,
@@ -46,6 +46,8 @@ pub enum Command {
     Run(Run),
     /// A session over the lines of each connection to an address.
     Listen(Listen),
+    /// The same, by a server that takes its log from the input and continues it in the output.
+    Serve(Listen),
     /// The core, stepped by the lines of the input.
     Drive(Settings),
     /// A project that is made, put and listed; no input is read.
@@ -54,4 +56,6 @@ pub enum Command {
     Export(Export),
     /// A kept version, which the input begins with, asked by the lines after it.
     Ask(Settings),
+    /// The log that the input is, written with only the lines that its last version needs.
+    Shorten(Settings),
 }

@@ -328,7 +328,7 @@ fn are_places_given(all: Left<'_>) -> bool
     ensures { result ≡ spec.are_places_given all.entry.verb (items_in all.entry) }
 {
     match all.verb {
-        Verb::Listen => is_text_given(all, Param::Address),
+        Verb::Listen | Verb::Serve => is_text_given(all, Param::Address),
         Verb::Export => is_text_given(all, Param::Project),
         _ => are_given(all, positionals_of(all.verb)),
     }

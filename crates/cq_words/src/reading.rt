@@ -3,7 +3,7 @@ ghost use Rattle.clap.specs.Words.{first_of};
 ghost use Rattle.cq_base.specs.Settings.{IsInRange};
 ghost use Rattle.cq_words.specs.Asked as spec;
 ghost use Rattle.cq_words.specs.Asked.{entries_of};
-ghost use Rattle.cq_words.specs.Command.{command_after, command_of, connections_of, default_settings, HasRanges};
+ghost use Rattle.cq_words.specs.Command.{command_after, command_of, connections_of, default_settings, HasRanges, HasServerRanges};
 ghost use Rattle.cq_words.specs.Table as table;
 ghost use Rattle.cq_words.specs.declared.table.Verb.TheVariants as verb;
 
@@ -108,10 +108,10 @@ fn run_read(matches: &ArgMatches) -> Option<Command>
     }))
 }
 
-fn listen_read(alloc: Global, matches: &ArgMatches) -> Result<Option<Command>, Memory>
-    ensures command { IfOk result
-        (λ r. r ≡ spec.command_read verb.Listen (entries_of matches.now)) }
-    ensures in_range { IfOk result (λ r. IfSome r HasRanges) }
+// What `listen` and `serve` have in common.
+fn server_read(alloc: Global, matches: &ArgMatches) -> Result<Option<Listen>, Memory>
+    ensures server { IfOk result (λ r. r ≡ spec.server_read (entries_of matches.now)) }
+    ensures in_range { IfOk result (λ r. IfSome r HasServerRanges) }
 {
     let Some(settings) = settings_read(matches) else {
         return Ok(None);
@@ -128,13 +128,35 @@ fn listen_read(alloc: Global, matches: &ArgMatches) -> Result<Option<Command>, M
     let Some(connections) = number_read(matches, Param::Connections) else {
         return Ok(None);
     };
-    Ok(Some(Command::Listen(Listen {
+    Ok(Some(Listen {
         settings,
         address: Text::from_bytes(alloc, address.as_bytes())?,
         workers: workers as u32,
         sessions: sessions as u32,
         connections: connections as u32,
-    })))
+    }))
+}
+
+fn listen_read(alloc: Global, matches: &ArgMatches) -> Result<Option<Command>, Memory>
+    ensures command { IfOk result
+        (λ r. r ≡ spec.command_read verb.Listen (entries_of matches.now)) }
+    ensures in_range { IfOk result (λ r. IfSome r HasRanges) }
+{
+    match server_read(alloc, matches)? {
+        Some(listen) => Ok(Some(Command::Listen(listen))),
+        None => Ok(None),
+    }
+}
+
+fn serve_read(alloc: Global, matches: &ArgMatches) -> Result<Option<Command>, Memory>
+    ensures command { IfOk result
+        (λ r. r ≡ spec.command_read verb.Serve (entries_of matches.now)) }
+    ensures in_range { IfOk result (λ r. IfSome r HasRanges) }
+{
+    match server_read(alloc, matches)? {
+        Some(serve) => Ok(Some(Command::Serve(serve))),
+        None => Ok(None),
+    }
 }
 
 fn drive_read(matches: &ArgMatches) -> Option<Command>
@@ -170,6 +192,14 @@ fn ask_read(matches: &ArgMatches) -> Option<Command>
     Some(Command::Ask(settings))
 }
 
+fn shorten_read(matches: &ArgMatches) -> Option<Command>
+    ensures command { result ≡ spec.command_read verb.Shorten (entries_of matches.now) }
+    ensures in_range { IfSome result HasRanges }
+{
+    let settings = settings_read(matches)?;
+    Some(Command::Shorten(settings))
+}
+
 fn make_read(matches: &ArgMatches) -> Option<Command>
     ensures command { result ≡ spec.command_read verb.Make (entries_of matches.now) }
     ensures in_range { IfSome result HasRanges }
@@ -189,10 +219,12 @@ fn command_read(alloc: Global, verb: Verb, matches: &ArgMatches) -> Result<Optio
     match verb {
         Verb::Run => Ok(run_read(matches)),
         Verb::Listen => listen_read(alloc, matches),
+        Verb::Serve => serve_read(alloc, matches),
         Verb::Drive => Ok(drive_read(matches)),
         Verb::Make => Ok(make_read(matches)),
         Verb::Export => export_read(alloc, matches),
         Verb::Ask => Ok(ask_read(matches)),
+        Verb::Shorten => Ok(shorten_read(matches)),
     }
 }
 
@@ -226,7 +258,7 @@ pub fn read_command(alloc: Global, words: &[Text]) -> Result<Option<Command>, Me
 }
 
 /// After how many connections the doors are to end: the number of `--connections` or its default, and None exactly if
-/// the words are not valid words of `listen`. It returns None for invalid words whatever memory there is.
+/// the words are not valid words of `listen` or `serve`. It returns None for invalid words whatever memory there is.
 pub fn connections(alloc: Global, words: &[Text]) -> Result<Option<u32>, Memory>
     ensures number { IfOk result (λ n. n ≡ connections_of words.now) }
     ensures refused { OnErr result (is_some (command_of words.now) ≡ true) }
@@ -236,6 +268,7 @@ pub fn connections(alloc: Global, words: &[Text]) -> Result<Option<u32>, Memory>
     }
     match read_command(alloc, words)? {
         Some(Command::Listen(listen)) => Ok(Some(listen.connections)),
+        Some(Command::Serve(serve)) => Ok(Some(serve.connections)),
         _ => Ok(None),
     }
 }

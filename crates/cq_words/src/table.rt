@@ -7,10 +7,12 @@ ghost use Rattle.cq_words.specs.Table as spec;
 pub(crate) enum Verb {
     Run,
     Listen,
+    Serve,
     Drive,
     Make,
     Export,
     Ask,
+    Shorten,
 }
 
 /// What words give by an option or as a positional: a number, or the text of an address or of a project's name.
@@ -96,6 +98,9 @@ pub(crate) fn verb_named(word: &[u8]) -> Option<Verb>
     if word == b"listen".as_slice() {
         return Some(Verb::Listen);
     }
+    if word == b"serve".as_slice() {
+        return Some(Verb::Serve);
+    }
     if word == b"drive".as_slice() {
         return Some(Verb::Drive);
     }
@@ -108,6 +113,9 @@ pub(crate) fn verb_named(word: &[u8]) -> Option<Verb>
     if word == b"ask".as_slice() {
         return Some(Verb::Ask);
     }
+    if word == b"shorten".as_slice() {
+        return Some(Verb::Shorten);
+    }
     None
 }
 
@@ -117,10 +125,12 @@ pub(crate) fn verb_name(verb: Verb) -> &'static str
     match verb {
         Verb::Run => "run",
         Verb::Listen => "listen",
+        Verb::Serve => "serve",
         Verb::Drive => "drive",
         Verb::Make => "make",
         Verb::Export => "export",
         Verb::Ask => "ask",
+        Verb::Shorten => "shorten",
     }
 }
 
@@ -129,8 +139,8 @@ pub(crate) fn options_of(verb: Verb) -> &'static [Param]
 {
     match verb {
         Verb::Run => &RUN_OPTIONS,
-        Verb::Listen => &LISTEN_OPTIONS,
-        Verb::Drive | Verb::Export | Verb::Ask => &SETTINGS_OPTIONS,
+        Verb::Listen | Verb::Serve => &LISTEN_OPTIONS,
+        Verb::Drive | Verb::Export | Verb::Ask | Verb::Shorten => &SETTINGS_OPTIONS,
         Verb::Make => &[],
     }
 }
@@ -139,7 +149,13 @@ pub(crate) fn flags_of(verb: Verb) -> &'static [Flag]
     ensures { result.now ≡ spec.flags_of verb }
 {
     match verb {
-        Verb::Run | Verb::Listen | Verb::Drive | Verb::Export | Verb::Ask => &FLAGS,
+        Verb::Run
+        | Verb::Listen
+        | Verb::Serve
+        | Verb::Drive
+        | Verb::Export
+        | Verb::Ask
+        | Verb::Shorten => &FLAGS,
         Verb::Make => &[],
     }
 }
@@ -149,8 +165,8 @@ pub(crate) fn positionals_of(verb: Verb) -> &'static [Param]
     ensures { result.now ≡ spec.positionals_of verb }
 {
     match verb {
-        Verb::Run | Verb::Drive | Verb::Ask => &[],
-        Verb::Listen => &LISTEN_POSITIONALS,
+        Verb::Run | Verb::Drive | Verb::Ask | Verb::Shorten => &[],
+        Verb::Listen | Verb::Serve => &LISTEN_POSITIONALS,
         Verb::Make => &MAKE_POSITIONALS,
         Verb::Export => &EXPORT_POSITIONALS,
     }

@@ -67,7 +67,7 @@ fn words_of(alloc: Global, args: env::Args) -> Result<Vec<Text>, Memory>
 fn status_of<
     Q: Threads + Wait + Sync,
     S: Source,
-    K: Sink,
+    K: Sink + Send,
     I: Source + Send + Drop,
     O: Sink + Send + Drop,
     D: Doors<In = I, Out = O>,

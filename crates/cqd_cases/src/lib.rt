@@ -11,4 +11,6 @@ mod failing;
 #[cfg(test)]
 mod held;
 #[cfg(test)]
+mod logs;
+#[cfg(test)]
 mod running;

@@ -24,7 +24,7 @@ pub(crate) fn words_of(alloc: Global, line: &str) -> Result<Vec<Text>, Memory> {
 pub(crate) fn status_of<
     Q: Threads + Wait + Sync,
     S: Source,
-    K: Sink,
+    K: Sink + Send,
     I: Source + Send + Drop,
     O: Sink + Send + Drop,
     D: Doors<In = I, Out = O>,

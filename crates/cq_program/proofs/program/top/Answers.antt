@@ -1,8 +1,9 @@
 use Rattle.std.proofs.Common.{rules, ◌≡◌, sym, subst}
 use Rattle.cq_base.specs.declared.settings.Settings.{Settings}
 use Rattle.cq_words.specs.declared.command.Export.{Export}
+use Rattle.cq_words.specs.declared.command.Listen.{Listen}
 use Rattle.cq_words.specs.declared.command.Make.{Make}
-use Rattle.cq_program.specs.Top.{AsksFile, Drives, ExportsFile, IsMade}
+use Rattle.cq_program.specs.Top.{AsksFile, Drives, ExportsFile, IsMade, Logs, ShortensLog}
 use Rattle.cq_program.proofs.Ended.{unread}
 use Rattle.cq_program.proofs.Kept.{no_line_taken}
 use Rattle.cq_program.proofs.program.top.Goals as goal
@@ -32,3 +33,13 @@ returns-in-Ok-Some-Make-clause-ends g c = λ some none. unread g.S.Source g.K.Si
 
 pub returns-in-Err-clause-no_line : goal.returns-in-Err-clause-no_line
 returns-in-Err-clause-no_line g c = λ settings is four. no_line_taken g.row.L.Denot g.S.Source settings c.args.source.now
+
+pub returns-in-Ok-Some-Serve-clause-logs : goal.returns-in-Ok-Some-Serve-clause-logs
+returns-in-Ok-Some-Serve-clause-logs g c = λ asked is.
+    let same : asked ≡ c.in-Ok-Some-Serve.asked = search rules in
+    subst (λ (x : Listen). Logs g.S.Source g.K.Sink x.settings c.args.source.now c.serve_logged.new.source c.args.sink.now c.serve_logged.new.sink c.serve_logged.result.status) (sym same) c.serve_logged.ensures.logs
+
+pub returns-in-Ok-Some-Shorten-clause-shortens : goal.returns-in-Ok-Some-Shorten-clause-shortens
+returns-in-Ok-Some-Shorten-clause-shortens g c = λ settings is.
+    let same : settings ≡ c.in-Ok-Some-Shorten.settings = search rules in
+    subst (λ (x : Settings). ShortensLog g.S.Source g.K.Sink x c.args.source.now c.shortened.new.source c.args.sink.now c.shortened.new.sink c.shortened.result) (sym same) c.shortened.ensures.shortens

@@ -5,7 +5,7 @@ use Rattle.cq_cells.specs.Callers.{Differ}
 use Rattle.cq_cells.specs.Passes as passes
 use Rattle.cq_chain.specs.Held.{IsLawful, IsBoard}
 use Rattle.cq_chain.specs.Passes.{BoardCells, IsPassOf}
-use Rattle.cq_chain.proofs.Passing.{is_pass, made_same, unmade_more, few_free, board_lawful, may_add, half}
+use Rattle.cq_chain.proofs.Passing.{is_pass, made_same, unmade_more, few_free, accepted_more, board_lawful, may_add, half}
 use Rattle.cq_chain.proofs.cells.Cells.leave_board.Goals as goal
 
 pub leave_board-requires : goal.leave_board-requires
@@ -55,6 +55,6 @@ returns-clause-of g c =
     let e = c.leave_board.ensures in
     let of : IsPassOf cells p = r.0 in
     let right : IsBoard cells.about (p.seen ++ option_to_list g.event) c.args.board = r.1.1.1 in
-    is_pass c.self.inside.cells cells q c.self.view_is c.self.invariant.1 e.of.0 (subst (IsLawful cells.about) (sym e.seen) (board_lawful cells.about (p.seen ++ option_to_list g.event) c.args.board right))
+    is_pass c.self.inside.cells cells q c.self.view_is c.self.invariant.1 e.of.0 (subst (IsLawful cells.about) (sym e.seen) (board_lawful cells.about (p.seen ++ option_to_list g.event) c.args.board right (accepted_more cells p g.event of.law r.1.1.0)))
     (subst Differ (sym e.of.1.callers) of.apart) (few_free q e.free)
     (made_same p q e.of.1 of.made) (unmade_more p q cells g.event r.1.1.0 e.of.1 e.seen of.made of.unmade)

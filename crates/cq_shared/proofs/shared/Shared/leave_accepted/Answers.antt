@@ -11,6 +11,6 @@ leave_board-requires g c =
     let r = c.requires.1.1 in
     let cells = cells_of c.args.self.now in
     let p = c.args.pass.now in
-    let may : IfSome g.event (MayAdd cells p) = subst (λ z. IfSome z (MayAdd cells p)) (sym r.0) (may_accept cells p c.args.change.now.value) in
-    let board : IsBoard cells.about (p.seen ++ option_to_list g.event) c.args.board = subst (λ z. IsBoard cells.about (p.seen ++ option_to_list z) c.args.board) (sym r.0) r.1.1.1 in
-    λ κs out. (search rules, (search rules, (r.1.0, (r.1.1.0, (may, board)))))
+    let may : IfSome g.event (MayAdd cells p) = subst (λ z. IfSome z (MayAdd cells p)) (sym r.0) (may_accept cells p c.args.change.now.value r.1.1.0) in
+    let board : IsBoard cells.about (p.seen ++ option_to_list g.event) c.args.board = subst (λ z. IsBoard cells.about (p.seen ++ option_to_list z) c.args.board) (sym r.0) r.1.1.1.1 in
+    λ κs out. (search rules, (search rules, (r.1.0, (r.1.1.1.0, (may, board)))))

@@ -1,0 +1,3 @@
+mod Acceptors
+mod Leveling
+mod Writing

@@ -1,0 +1,3 @@
+pub mod Unpicked
+pub mod Firsts
+pub mod Kept

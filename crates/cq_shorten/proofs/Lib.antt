@@ -1,0 +1,7 @@
+mod Renumbered
+mod Deciding
+mod Taking
+mod Easing
+mod Writing
+mod Shorter
+mod Ending

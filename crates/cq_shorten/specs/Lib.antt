@@ -1,0 +1,4 @@
+pub mod Needed
+pub mod Worked
+pub mod Keeping
+pub mod Shortened
